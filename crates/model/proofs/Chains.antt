@@ -1,0 +1,153 @@
+-- Chains of parents. Assumes nothing.
+use mathlib.Core.Path.{_≡_, refl, sym, ap, subst, _∙_}
+use mathlib.Core.Logic.{_≢_, _⊎_, inl, inr, ⊎-elim}
+use Prim.Native.Nat.{ℕ, zero, suc, _≤_, _<_, _+_}
+use native.Mathlib.Omega.{arith}
+use native.Mathlib.Decide.{ℕ-discrete, decLe, decLt}
+use Rattle.model.specs.Defs.{Chain, stop, up, Falls, Split, Depth, at-zero, under}
+
+pub same-or : (i j : ℕ) → (i ≡ j) ⊎ (i ≢ j)
+same-or i j = elim (ℕ-discrete i j) [ yes e ↦ inl e | no f ↦ inr f ]
+
+pub less-or : (i j : ℕ) → (i < j) ⊎ (j ≤ i)
+less-or i j = elim (decLt i j) [ yes e ↦ inl e | no f ↦ inr (omega arith) ]
+
+pub zero-or : (q : ℕ) → (q ≡ 0) ⊎ (0 < q)
+zero-or zero = inl refl
+zero-or (suc q) = inr (omega arith)
+
+pub chain-join : {p : ℕ → ℕ} {i j k : ℕ} → Chain p i j → Chain p j k → Chain p i k
+chain-join stop d = d
+chain-join (up c) d = up (chain-join c d)
+
+pub chain-eq : {p : ℕ → ℕ} {i j : ℕ} → i ≡ j → Chain p i j
+chain-eq {p} {i} e = rw (← e) stop
+
+-- what is strictly above a sibling is above
+pub over : {p : ℕ → ℕ} {i s t d : ℕ} → Chain p i s → p s ≡ p t → Chain p (p t) d → Chain p i d
+over {p} {i} {s} {t} {d} c e k = chain-join c (up (rw e k))
+
+pub cases : {A B C : Type 0} → A ⊎ B → (A → C) → (B → C) → C
+cases (inl a) f g = f a
+cases (inr b) f g = g b
+
+-- strictly above goes through the parent
+pub chain-parent : {p : ℕ → ℕ} {i j : ℕ} → Chain p i j → (i ≡ j) ⊎ Chain p (p i) j
+chain-parent stop = inl refl
+chain-parent (up c) = inr c
+
+pub comparable : {p : ℕ → ℕ} {i a b : ℕ} → Chain p i a → Chain p i b → Chain p a b ⊎ Chain p b a
+comparable stop d = inl d
+comparable (up c) stop = inr (up c)
+comparable (up c) (up d) = comparable c d
+
+-- the child of j on the way from i to j
+pub chain-child : {p : ℕ → ℕ} {i j : ℕ} → Chain p i j → (i ≡ j) ⊎ ((k : ℕ) × Chain p i k × (p k ≡ j) × (k ≢ j))
+chain-child stop = inl refl
+chain-child {p} {i} {j} (up c) = go (same-or i j) (chain-child c)
+  where
+    go : (i ≡ j) ⊎ (i ≢ j) → (p i ≡ j) ⊎ ((k : ℕ) × Chain p (p i) k × (p k ≡ j) × (k ≢ j)) → (i ≡ j) ⊎ ((k : ℕ) × Chain p i k × (p k ≡ j) × (k ≢ j))
+    go (inl e) h = inl e
+    go (inr f) (inl e) = inr (i, stop, e, f)
+    go (inr f) (inr h) = inr (h .0, up (h .1), h .2, h .3)
+
+module _ {p : ℕ → ℕ} (f : Falls p) where
+  parent-le : (i : ℕ) → p i ≤ i
+  parent-le zero = omega (arith, f .zero-parent)
+  parent-le (suc i) = let h : p (suc i) < suc i = f .falls (suc i) (omega arith) in omega arith
+
+  pub chain-le : {i j : ℕ} → Chain p i j → j ≤ i
+  chain-le stop = omega arith
+  chain-le {i} (up c) = omega (arith, chain-le c, parent-le i)
+
+  pub chain-antisym : {i j : ℕ} → Chain p i j → Chain p j i → i ≡ j
+  chain-antisym c d = omega (arith, chain-le c, chain-le d)
+
+  pub strictly-not : {i j : ℕ} → 0 < i → Chain p (p i) j → j < i
+  strictly-not {i} h c = omega (arith, chain-le c, f .falls i h)
+
+  chain-dec-fuel : (m i j : ℕ) → i ≤ m → Dec (Chain p i j)
+  chain-dec-fuel m zero zero h = yes stop
+  chain-dec-fuel m zero (suc j) h = no (λ c. omega (arith, chain-le c))
+  chain-dec-fuel zero (suc i) j h = absurd (omega arith)
+  chain-dec-fuel (suc m) (suc i) j h =
+      elim (ℕ-discrete (suc i) j) [
+        | yes e ↦ yes (chain-eq e)
+        | no d ↦ elim (chain-dec-fuel m (p (suc i)) j (omega (arith, f .falls (suc i) (omega arith)))) [
+          | yes c ↦ yes (up c)
+          | no g ↦ no (λ c. elim (chain-parent c) [ inl e ↦ d e | inr c′ ↦ g c′ ])
+        ]
+      ]
+
+  pub chain-dec : (i j : ℕ) → Chain p i j ⊎ (¬ (Chain p i j))
+  chain-dec i j = elim (chain-dec-fuel i i j (omega arith)) [ yes c ↦ inl c | no g ↦ inr g ]
+
+  pub above-zero : (i : ℕ) → Chain p i 0
+  above-zero i = go i i (omega arith)
+    where
+      go : (m i : ℕ) → i ≤ m → Chain p i 0
+      go m zero h = stop
+      go zero (suc i) h = absurd (omega arith)
+      go (suc m) (suc i) h = up (go m (p (suc i)) (omega (arith, f .falls (suc i) (omega arith))))
+
+  -- no two children of one parent stand in one chain
+  pub no-rung-twice : {i s t : ℕ} → Chain p i s → Chain p i t → 0 < s → 0 < t → p s ≡ p t → s ≡ t
+  no-rung-twice {i} {s} {t} c d hs ht e = ⊎-elim
+      (λ x. ⊎-elim (λ y. y) (λ y. absurd (omega (arith, strictly-not ht (rw e at y)))) (chain-parent x))
+      (λ x. ⊎-elim (λ y. sym y) (λ y. absurd (omega (arith, strictly-not hs (rw (← e) at y)))) (chain-parent x))
+      (comparable c d)
+
+  pub split-flip : {i j s t : ℕ} → Split p i j s t → Split p j i t s
+  split-flip x = record { left = x .right; right = x .left; left-pos = x .right-pos; right-pos = x .left-pos; same-parent = sym (x .same-parent) }
+
+  -- where the left children of two splits differ, the upper stands in both chains
+  one-left-le : {i j s t s′ t′ : ℕ} → Split p i j s t → s ≢ t → Split p i j s′ t′ → Chain p s′ s → s′ ≡ s
+  one-left-le x d y c = ⊎-elim (λ e. e)
+      (λ u. absurd (d (no-rung-twice (chain-join (y .right) (up (rw (y .same-parent) at u))) (x .right) (x .left-pos) (x .right-pos) (x .same-parent))))
+      (chain-parent c)
+
+  pub one-left : {i j s t s′ t′ : ℕ} → Split p i j s t → s ≢ t → Split p i j s′ t′ → s′ ≢ t′ → s ≡ s′
+  one-left x d y d′ = ⊎-elim (λ c. one-left-le y d′ x c) (λ c. sym (one-left-le x d y c)) (comparable (x .left) (y .left))
+
+  pub one-right : {i j s t s′ t′ : ℕ} → Split p i j s t → s ≢ t → Split p i j s′ t′ → s′ ≢ t′ → t ≡ t′
+  one-right {i} {j} {s} {t} {s′} {t′} x d y d′ =
+      let e : p t ≡ p t′ = sym (x .same-parent) ∙ ap p (one-left x d y d′) ∙ y .same-parent in
+      no-rung-twice (x .right) (y .right) (x .right-pos) (y .right-pos) e
+
+  -- a split below a common copy: where d is in the chain of i, and t is in the chain of j below it ..
+  pub above-split : {i j s t d : ℕ} → Split p i j s t → Chain p j d → Chain p d t ⊎ Chain p i d
+  above-split x c = ⊎-elim
+      (λ u. ⊎-elim (λ e. inl (chain-eq (sym e))) (λ w. inr (chain-join (x .left) (up (rw (← x .same-parent) at w)))) (chain-parent u))
+      (λ u. inl u)
+      (comparable (x .right) c)
+
+  pub depth-of : (k : ℕ) → (d : ℕ) × Depth p k d
+  depth-of k = go k k (omega arith)
+    where
+      go : (m k : ℕ) → k ≤ m → (d : ℕ) × Depth p k d
+      go m zero h = (0, at-zero)
+      go zero (suc k) h = absurd (omega arith)
+      go (suc m) (suc k) h = let w = go m (p (suc k)) (omega (arith, f .falls (suc k) (omega arith))) in (suc (w .0), under (omega arith) (w .1))
+
+  depth-zero : {k d : ℕ} → k ≡ 0 → Depth p k d → d ≡ 0
+  depth-zero e at-zero = refl
+  depth-zero e (under h d) = absurd (omega arith)
+
+  depth-one : {k d e : ℕ} → Depth p k d → Depth p k e → d ≡ e
+  depth-one at-zero b = sym (depth-zero refl b)
+  depth-one (under h a) at-zero = absurd (omega arith)
+  depth-one (under h a) (under h′ b) = ap suc (depth-one a b)
+
+  pub depth-le : {k j d e : ℕ} → Chain p k j → Depth p k d → Depth p j e → e ≤ d
+  depth-le stop a b = omega (arith, depth-one a b)
+  depth-le (up c) at-zero b = omega (arith, depth-zero (omega (arith, chain-le c, f .zero-parent)) b)
+  depth-le (up c) (under h a) b = omega (arith, depth-le c a b)
+
+  depth-up : {k a d e : ℕ} → Chain p k a → Depth p k d → Depth p a e → d ≤ e → Chain p a k
+  depth-up stop x y l = stop
+  depth-up (up c) at-zero y l = chain-eq (omega (arith, chain-le c, f .zero-parent))
+  depth-up (up c) (under h x) y l = absurd (omega (arith, depth-le c x y))
+
+  -- of two in one chain, the one that is not farther from 0 is above
+  pub depth-chain : {i a k d e : ℕ} → Chain p i a → Chain p i k → Depth p k d → Depth p a e → d ≤ e → Chain p a k
+  depth-chain ca ck dk da l = cases (comparable ca ck) (λ c. c) (λ c. depth-up c dk da l)

@@ -1,0 +1,246 @@
+-- Rel gives a path of derived edges. Assumes nothing.
+use mathlib.Core.Path.{_≡_, refl, sym, ap, subst, _∙_}
+use mathlib.Core.Logic.{_≢_, _⊎_, inl, inr, ⊎-elim}
+use Prim.Native.Nat.{ℕ, zero, suc, _≤_, _<_, _+_}
+use native.Mathlib.Omega.{arith}
+use Rattle.model.specs.Defs.{Path*, here, step, Chain, Spec, Edge, In, Loop-rule, Sealed, stop, up, Run, Conforms, Split, Apart, Earlier, Mate, Next, First, Last, Firsts, Lasts, Plain, Back, Derived, Rel, Farthest}
+use Rattle.model.proofs.Chains.{same-or, less-or, cases, over, chain-le, chain-eq, chain-parent, chain-dec, chain-join, comparable, no-rung-twice, above-split, one-left, one-right, split-flip}
+use Rattle.model.proofs.Paths.{path-join, path-one, path-last, walk}
+use Rattle.model.proofs.Sealing.{in-or, enters, from-source, to-sink, no-circle, farthest-of, far-chain}
+use Rattle.model.proofs.Copies.{chain-range, maps, unique, agree, same-or-apart, in-copy, copy-in, block-pos, copy-range, next-pos, earlier, apart, never-apart}
+use Rattle.model.proofs.Groups.{Turn, firsts-or-turn, first-or-next, mate-turn, mate-self, mate-join}
+use Rattle.model.proofs.Descend.{Lands, Fine, descend, follow}
+use Rattle.model.proofs.Sound.{loop-of, sound}
+
+module _ {s : Spec} {r : Run} (S : Sealed s) (C : Conforms s r) where
+  -- the copy of the farthest block that holds z′ and the origin of w, in w's chain
+  record Meets (w z′ : ℕ) : Type 0 where
+    m-copy : ℕ
+    m-in : Chain (r .parent) (r .context w) m-copy
+    m-far : Farthest s z′ (r .origin w) (r .block m-copy)
+
+  meets-of : (w z′ : ℕ) → w < r .v → Meets w z′
+  meets-of w z′ hw =
+      let a = farthest-of S z′ (r .origin w) in
+      let q = in-copy S C hw (a .1 .holds-y) in
+      record { m-copy = q .0; m-in = q .1; m-far = rw (q .2) (a .1) }
+
+  -- a copy in w's chain of a block that holds z′ too
+  meets-above : {w z′ t : ℕ} → w < r .v → (M : Meets w z′) → Chain (r .parent) (r .context w) t → In s (r .block t) z′ → Chain (r .parent) (M .m-copy) t
+  meets-above {w} {z′} {t} hw M c i = agree S C (C .context-range w hw) (M .m-in) c (far-chain S (M .m-far) (r .block t) i (copy-in S C hw c))
+
+  turn-pos : {i d : ℕ} (t : Turn s r i d) → 0 < t .q
+  turn-pos t = t .turn-next .mate .not-zero
+
+  turn-rule : {i d : ℕ} (t : Turn s r i d) → Loop-rule s (r .block (t .q))
+  turn-rule t = loop-of S C (t .turn-next .mate .exists) (turn-pos t) (t .turn-loop)
+
+  turn-block : {i d : ℕ} (t : Turn s r i d) → r .block (t .q) < s .b
+  turn-block t = copy-range S C (t .turn-next .mate .exists) (turn-pos t)
+
+  -- an edge from z′ comes into the turn from outside
+  turn-source : {w z′ : ℕ} → w < r .v → (M : Meets w z′) → Edge s z′ (r .origin w) → (t : Turn s r (r .context w) (M .m-copy)) → r .origin w ≡ s .source (r .block (t .q))
+  turn-source {w} {z′} hw M e t =
+      enters S (turn-rule t) e
+      (λ i. omega (arith, chain-le (C .tree) (meets-above hw M (t .turn-in) i), chain-le (C .tree) (t .turn-above), C .tree .falls (t .q) (turn-pos t)))
+      (copy-in S C hw (t .turn-in))
+
+  plain-edge : {w z′ v : ℕ} → w < r .v → (M : Meets w z′) → Edge s z′ (r .origin w) → Firsts s r (r .context w) (M .m-copy) → Lands s r (M .m-copy) z′ v → Derived s r v w
+  plain-edge {w} {z′} {v} hw M e f l = record {
+    tail-range = l .land-range;
+    head-range = hw;
+    way = inl (record {
+      plain-edge = rw (← l .land-origin) at e;
+      common = M .m-copy;
+      far = rw (← l .land-origin) at (M .m-far);
+      in-u = l .land-below;
+      in-w = M .m-in;
+      lasts = l .land-lasts;
+      firsts = f;
+    });
+  }
+
+  back-edge : {w p q v : ℕ} → w < r .v → Chain (r .parent) (r .context w) q → s .kind (r .block q) ≡ 2 → Firsts s r (r .context w) q → Next r p q → r .origin w ≡ s .source (r .block q)
+      → Lands s r p (s .sink (r .block q)) v → Derived s r v w
+  back-edge {w} {p} {q} {v} hw c k f n e l = record {
+    tail-range = l .land-range;
+    head-range = hw;
+    way = inr (record {
+      from = p;
+      to = q;
+      is-loop = rw (n .mate .one-block) at k;
+      from-sink = l .land-origin ∙ ap (s .sink) (n .mate .one-block);
+      to-source = e ∙ ap (s .source) (n .mate .one-block);
+      back-u = l .land-below;
+      back-w = c;
+      next = n;
+      back-lasts = l .land-lasts;
+      back-firsts = f;
+    });
+  }
+
+  -- the step at the end of the copy before a turn
+  turn-edge : {w d : ℕ} → w < r .v → (t : Turn s r (r .context w) d) → r .origin w ≡ s .source (r .block (t .q))
+      → (v : ℕ) × Derived s r v w × Lands s r (t .p) (s .sink (r .block (t .q))) v
+  turn-edge {w} {d} hw t e =
+      let n = t .turn-next in
+      let L = turn-rule t in
+      let u = descend S C (t .p) (s .sink (r .block (t .q))) (omega (arith, n .later, n .mate .exists)) (S .ranges .sink-range (r .block (t .q)) (turn-block t)) (subst (λ k. In s k (s .sink (r .block (t .q)))) (n .mate .one-block) (L .sink-in)) in
+      (u .0, back-edge hw (t .turn-in) (t .turn-loop) (t .turn-firsts) n e (u .1), u .1)
+
+  turn-over : {i j d : ℕ} (t : Turn s r i d) → Chain (r .parent) j (t .p) → Chain (r .parent) j d
+  turn-over t c = over c (sym (t .turn-next .mate .one-parent)) (t .turn-above)
+
+  abbrev Inside : ℕ → ℕ → Type 0
+  Inside w t = ((v : ℕ) × Derived s r v w × Chain (r .parent) (r .context v) t) ⊎ ((r .origin w ≡ s .source (r .block t)) × Firsts s r (r .context w) t)
+
+  -- a predecessor inside a loop copy, or the very start of it
+  inside : {w t : ℕ} → w < r .v → Chain (r .parent) (r .context w) t → 0 < t → s .kind (r .block t) ≡ 2 → Inside w t
+  inside {w} {t} hw c z k =
+      let ht : t < r .c = chain-range S C (C .context-range w hw) c in
+      let L : Loop-rule s (r .block t) = loop-of S C ht z k in
+      let z-in : In s (r .block t) (r .origin w) = copy-in S C hw c in
+      cases (same-or (r .origin w) (s .source (r .block t)))
+      (λ e. cases (firsts-or-turn s (C .tree) (C .context-range w hw) c)
+      (λ f. inr (e, f))
+      (λ T. let v = turn-edge hw T (too L e T) in inl (v .0, v .1, turn-over T (v .2 .land-below))))
+      (λ d.
+      let e = L .some-in (r .origin w) (C .origin-range w hw) z-in d in
+      let e-in : In s (r .block t) (e .0) = L .all-in (r .origin w) (e .0) z-in d (e .1) in
+      let M = meets-of w (e .0) hw in
+      let ct = meets-above hw M c e-in in
+      cases (firsts-or-turn s (C .tree) (C .context-range w hw) (M .m-in))
+      (λ f. let v = descend S C (M .m-copy) (e .0) (chain-range S C (C .context-range w hw) (M .m-in)) (S .ranges .edge-range (e .0) (r .origin w) (e .1) .0) (M .m-far .holds-x) in
+      inl (v .0, plain-edge hw M (e .1) f (v .1), chain-join (v .1 .land-below) ct))
+      (λ T. let v = turn-edge hw T (turn-source hw M (e .1) T) in inl (v .0, v .1, chain-join (turn-over T (v .2 .land-below)) ct)))
+    where
+      -- the source of a loop is the source of a loop inside that holds it
+      too : Loop-rule s (r .block t) → r .origin w ≡ s .source (r .block t) → (T : Turn s r (r .context w) t) → r .origin w ≡ s .source (r .block (T .q))
+      too L e T = cases (same-or (r .origin w) (s .source (r .block (T .q)))) (λ x. x) λ d.
+          let z-in : In s (r .block (T .q)) (r .origin w) = copy-in S C hw (T .turn-in) in
+          let g = turn-rule T .some-in (r .origin w) (C .origin-range w hw) z-in d in
+          let g-in : In s (r .block (T .q)) (g .0) = turn-rule T .all-in (r .origin w) (g .0) z-in d (g .1) in
+          let g-in′ : In s (r .block t) (g .0) = chain-join g-in (maps S C (T .turn-next .mate .exists) (up (T .turn-above))) in
+          absurd (S .no-cycle (s .source (r .block t)) (g .0) (from-source S L (S .ranges .edge-range (g .0) (r .origin w) (g .1) .0) g-in′) (subst (λ x. Edge s (g .0) x) e (g .1)))
+
+  abbrev Before-it : ℕ → ℕ → Type 0
+  Before-it u w = (v : ℕ) × Derived s r v w × Rel s r u v
+
+  pred-earlier : {u w : ℕ} → u < r .v → w < r .v → Earlier s r (r .context u) (r .context w) → Before-it u w
+  pred-earlier {u} {w} hu hw E =
+      let i = r .context u in
+      let c : Chain (r .parent) (r .context w) (E .et) = E .esplit .right in
+      let k : s .kind (r .block (E .et)) ≡ 2 = rw (E .eblock) at (E .eloop) in
+      let ht : E .et < r .c = chain-range S C (C .context-range w hw) c in
+      let hs : E .es < r .c = chain-range S C (C .context-range u hu) (E .esplit .left) in
+      let L : Loop-rule s (r .block (E .et)) = loop-of S C ht (E .esplit .right-pos) k in
+      let ms : Mate r (E .et) (E .es) = record { exists = hs; not-zero = E .esplit .left-pos; one-parent = E .esplit .same-parent; one-block = E .eblock } in
+      cases (inside hw c (E .esplit .right-pos) k)
+      (λ v. (v .0, v .1, inl (earlier S C (E .esplit .left) (v .2) (E .esplit .left-pos) (E .esplit .same-parent) (E .eblock) (E .eless) (E .eloop))))
+      (λ a. cases (first-or-next (E .et) ht (E .esplit .right-pos))
+      (λ g. absurd (omega (arith, g (E .es) ms, E .eless)))
+      (λ n.
+      let hp : n .0 < r .c = omega (arith, n .1 .later) in
+      let sink-in : In s (r .block (n .0)) (s .sink (r .block (E .et))) = subst (λ k. In s k (s .sink (r .block (E .et)))) (n .1 .mate .one-block) (L .sink-in) in
+      let mp : Mate r (n .0) (E .es) = mate-join (n .1 .mate) ms in
+      cases (same-or (E .es) (n .0))
+      (λ e.
+      let v = follow S C (n .0) (s .sink (r .block (E .et))) i (C .context-range u hu) (rw e at (E .esplit .left)) (S .ranges .sink-range (r .block (E .et)) (copy-range S C ht (E .esplit .right-pos))) sink-in in
+      let D = back-edge hw c k (a .1) (n .1) (a .0) (v .1) in
+      let x-in : In s (r .block (E .et)) (r .origin u) = rw (E .eblock) at (copy-in S C hu (E .esplit .left)) in
+      let p : Path* (Edge s) (r .origin u) (r .origin (v .0)) = rw (v .1 .land-origin) (to-sink S L (C .origin-range u hu) x-in) in
+      (v .0, D, cases (v .2) (λ f. inr (f, p)) inl))
+      (λ d.
+      let v = descend S C (n .0) (s .sink (r .block (E .et))) hp (S .ranges .sink-range (r .block (E .et)) (copy-range S C ht (E .esplit .right-pos))) sink-in in
+      let D = back-edge hw c k (a .1) (n .1) (a .0) (v .1) in
+      let l : E .es < n .0 = cases (less-or (E .es) (n .0)) (λ x. x) (λ x. absurd (omega (arith, E .eless, n .1 .none-between (E .es) mp (omega arith)))) in
+      (v .0, D, inl (earlier S C (E .esplit .left) (v .1 .land-below) (E .esplit .left-pos) (mp .one-parent) (mp .one-block) l (E .eloop))))))
+
+  pred-path : {u w z′ : ℕ} → u < r .v → w < r .v → (¬ (Apart r (r .context u) (r .context w))) → Path* (Edge s) (r .origin u) z′ → Edge s z′ (r .origin w) → Before-it u w
+  pred-path {u} {w} {z′} hu hw f p e =
+      let M = meets-of w z′ hw in
+      let hz : z′ < s .n = S .ranges .edge-range z′ (r .origin w) e .0 in
+      cases (firsts-or-turn s (C .tree) (C .context-range w hw) (M .m-in))
+      (λ g. cases (chain-dec (C .tree) (r .context u) (M .m-copy))
+      (λ c.
+      let v = follow S C (M .m-copy) z′ (r .context u) (C .context-range u hu) c hz (M .m-far .holds-x) in
+      let p′ : Path* (Edge s) (r .origin u) (r .origin (v .0)) = rw (v .1 .land-origin) p in
+      (v .0, plain-edge hw M e g (v .1), cases (v .2) (λ h. inr (h, p′)) inl))
+      (λ out.
+      let v = descend S C (M .m-copy) z′ (chain-range S C (C .context-range w hw) (M .m-in)) hz (M .m-far .holds-x) in
+      let p′ : Path* (Edge s) (r .origin u) (r .origin (v .0)) = rw (v .1 .land-origin) p in (
+        v .0,
+        plain-edge hw M e g (v .1),
+        inr (
+          (λ A. cases (above-split (C .tree) (A .split) (v .1 .land-below))
+              (λ c. f (apart S C (A .split .left) (chain-join (M .m-in) c) (A .split .left-pos) (A .split .right-pos) (A .split .same-parent) (A .same-block) (A .differ)))
+              out),
+          p′,
+        ),
+      )))
+      (λ T.
+      let src = turn-source hw M e T in
+      let L = turn-rule T in
+      let n = T .turn-next in
+      let v = turn-edge hw T src in
+      let p₁ : Path* (Edge s) (r .origin u) (s .source (r .block (T .q))) = rw src at (step p e) in
+      let p′ : Path* (Edge s) (r .origin u) (r .origin (v .0)) = rw (v .2 .land-origin) (path-join p₁ (to-sink S L (S .ranges .source-range (r .block (T .q)) (turn-block T)) (L .source-in))) in (
+        v .0,
+        v .1,
+        inr (
+          (λ A. cases (above-split (C .tree) (A .split) (v .2 .land-below))
+              (λ c. cases (chain-parent c)
+              (λ q. cases (same-or (A .s) (T .q))
+              (λ x. S .no-cycle (s .source (r .block (T .q))) z′
+              (path-join (from-source S L (C .origin-range u hu) (copy-in S C hu (rw x at (A .split .left)))) p)
+              (subst (λ x. Edge s z′ x) src e))
+              (λ d. f (apart S C (A .split .left) (T .turn-in) (A .split .left-pos) (turn-pos T)
+              (A .split .same-parent ∙ ap (r .parent) (sym q) ∙ sym (n .mate .one-parent))
+              (A .same-block ∙ ap (r .block) (sym q) ∙ sym (n .mate .one-block)) d)))
+              (λ c′. f (apart S C (A .split .left) (over (T .turn-in) (n .mate .one-parent) c′) (A .split .left-pos) (A .split .right-pos) (A .split .same-parent) (A .same-block) (A .differ))))
+              (λ c. f (apart S C c (T .turn-in) (next-pos S C n) (turn-pos T) (sym (n .mate .one-parent)) (sym (n .mate .one-block)) (λ x. omega (arith, x, n .later))))),
+          p′,
+        ),
+      ))
+
+  same-context : {u w : ℕ} → u < r .v → w < r .v → (¬ (Apart r (r .context u) (r .context w))) → r .origin u ≡ r .origin w → u ≡ w
+  same-context {u} {w} hu hw f e = cases
+      (same-or-apart S C (C .context-range u hu) (C .context-range w hw) stop stop (sym (C .at-home u hu) ∙ ap (s .home) e ∙ C .at-home w hw))
+      (λ x. C .only-step u w hu hw x e) (λ A. absurd (f A))
+
+  predecessor : {u w : ℕ} → u < r .v → w < r .v → u ≢ w → Rel s r u w → Before-it u w
+  predecessor hu hw d (inl E) = pred-earlier hu hw E
+  predecessor hu hw d (inr N) = cases (path-last (N .1))
+      (λ e. absurd (d (same-context hu hw (N .0) e)))
+      (λ p. pred-path hu hw (N .0) (p .1) (p .2))
+
+  apart-flip : {i j : ℕ} → Apart r i j → Apart r j i
+  apart-flip A = record { s = A .t; t = A .s; split = split-flip (C .tree) (A .split); same-block = sym (A .same-block); differ = λ e. A .differ (sym e) }
+
+  earlier-apart : {i j : ℕ} → Earlier s r i j → Apart r i j
+  earlier-apart E = record { s = E .es; t = E .et; split = E .esplit; same-block = E .eblock; differ = λ e. omega (arith, e, E .eless) }
+
+  pub rel-antisym : {u w : ℕ} → u < r .v → w < r .v → Rel s r u w → Rel s r w u → u ≡ w
+  rel-antisym hu hw (inl E) (inl F) =
+      let x = split-flip (C .tree) (F .esplit) in
+      let d : E .es ≢ E .et = λ e. omega (arith, e, E .eless) in
+      let d′ : F .et ≢ F .es = λ e. omega (arith, e, F .eless) in
+      absurd (omega (arith, E .eless, F .eless, one-left (C .tree) (E .esplit) d x d′, one-right (C .tree) (E .esplit) d x d′))
+  rel-antisym hu hw (inl E) (inr N) = absurd (N .0 (apart-flip (earlier-apart E)))
+  rel-antisym hu hw (inr N) (inl F) = absurd (N .0 (apart-flip (earlier-apart F)))
+  rel-antisym hu hw (inr N) (inr M) = same-context hu hw (N .0) (no-circle S (N .1) (M .1))
+
+  no-self : {u w : ℕ} → u ≡ w → Derived s r u w → ⊥
+  no-self {u} {w} e D = cases (D .way)
+      (λ P. S .no-cycle (r .origin u) (r .origin u) here (subst (λ x. Edge s (r .origin u) (r .origin x)) (sym e) (P .plain-edge)))
+      (λ B. omega (arith, B .next .later, no-rung-twice (C .tree) (subst (λ x. Chain (r .parent) (r .context x) (B .from)) e (B .back-u)) (B .back-w) (next-pos S C (B .next)) (B .next .mate .not-zero) (sym (B .next .mate .one-parent))))
+
+  pub no-run-cycle : (x y : ℕ) → Path* (Derived s r) x y → Derived s r y x → ⊥
+  no-run-cycle x y p D = no-self (rel-antisym (D .tail-range) (D .head-range) (sound S C (D .tail-range) (path-one D)) (sound S C (D .head-range) p)) D
+
+  pub complete : {u w : ℕ} → u < r .v → w < r .v → Rel s r u w → Path* (Derived s r) u w
+  complete {u} {w} hu hw R =
+      let z = walk (Derived s r) (λ x. (x < r .v) × Rel s r u x) (λ x. x ≡ u) (r .v) no-run-cycle (λ x a. a .0)
+      (λ x a. cases (same-or x u) inl (λ d. let b = predecessor hu (a .0) (λ e. d (sym e)) (a .1) in inr (b .0, b .1, (b .1 .tail-range, b .2))))
+      w (hw, R) in
+      rw (z .1) at (z .3)

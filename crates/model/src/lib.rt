@@ -1,0 +1,44 @@
+ghost use Rattle.model.specs.Law.{Path-law, Order-law, Label-law, Apart-law, After-law, Growth-law, Answer-law};
+ghost use Rattle.model.specs.Import.{Import-law};
+
+pub fn path_law_stands() -> u8
+    ensures { λ _. ⌜ Path-law ⌝ }
+{
+    0
+}
+
+pub fn order_law_stands() -> u8
+    ensures { λ _. ⌜ Order-law ⌝ }
+{
+    0
+}
+
+pub fn label_law_stands() -> u8
+    ensures { λ _. ⌜ Label-law ⌝ ∗ ⌜ Apart-law ⌝ }
+{
+    0
+}
+
+pub fn after_law_stands() -> u8
+    ensures { λ _. ⌜ After-law ⌝ }
+{
+    0
+}
+
+pub fn growth_law_stands() -> u8
+    ensures { λ _. ⌜ Growth-law ⌝ }
+{
+    0
+}
+
+pub fn import_law_stands() -> u8
+    ensures { λ _. ⌜ Import-law ⌝ }
+{
+    0
+}
+
+pub fn answer_law_stands() -> u8
+    ensures { λ _. ⌜ Answer-law ⌝ }
+{
+    0
+}
