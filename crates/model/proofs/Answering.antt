@@ -1,12 +1,12 @@
--- The question rule whole. Assumes nothing.
+-- The question rule whole.
 use mathlib.Core.Path.{_≡_, refl, sym, ap, subst, _∙_}
 use mathlib.Core.Logic.{_≢_, _⊎_, _↔_, inl, inr}
 use mathlib.Core.Bool.{Bool, true, false}
 use Prim.Native.Nat.{ℕ, zero, suc, _≤_, _<_, _+_}
 use native.Mathlib.Omega.{arith}
 use lib.Dec.{T}
-use Rattle.model.specs.Orders.{Label, Other, Yes, by-equal, by-loop, by-reach, Answer, equal, forked, looped, asked}
-use Rattle.model.specs.Law.{Alike, As}
+use Rattle.model.specs.Labels.{Label, Other, Yes, by-equal, by-loop, by-reach, Answer, equal, forked, looped, asked}
+use Rattle.model.specs.Laws.{Alike, As}
 use Rattle.model.proofs.Chains.{cases, less-or}
 
 bool-ext : (a b : Bool) → (T a → T b) → (T b → T a) → a ≡ b

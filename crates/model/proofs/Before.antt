@@ -1,11 +1,13 @@
--- A test of Before, and positions by counting. Assumes nothing.
+-- A test of Before, and positions by counting.
 use mathlib.Core.Path.{_≡_, refl, sym, ap, subst, _∙_}
 use mathlib.Core.Logic.{_≢_, _⊎_, inl, inr}
 use mathlib.Core.Bool.{Bool, true, false}
 use Prim.Native.Nat.{ℕ, zero, suc, _≤_, _<_, _+_}
 use native.Mathlib.Omega.{arith}
 use lib.Dec.{T}
-use Rattle.model.specs.Defs.{Chain, stop, up, Falls, Spec, Run, Split}
+use Rattle.model.specs.Forests.{Chain, stop, up, Falls, Split}
+use Rattle.model.specs.Specifications.{Spec}
+use Rattle.model.specs.Runs.{Run}
 use Rattle.model.specs.Orders.{Turned, Sooner, Branch, Before, Count, none, hit, miss, Position}
 use Rattle.model.proofs.Chains.{cases, chain-le}
 use Rattle.model.proofs.Tests.{Test, test-eq, test-lt, test-and, test-or, test-not, test-as, test-any, test-chain}

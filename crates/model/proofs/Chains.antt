@@ -1,10 +1,10 @@
--- Chains of parents. Assumes nothing.
+-- Chains of parents.
 use mathlib.Core.Path.{_≡_, refl, sym, ap, subst, _∙_}
 use mathlib.Core.Logic.{_≢_, _⊎_, inl, inr, ⊎-elim}
 use Prim.Native.Nat.{ℕ, zero, suc, _≤_, _<_, _+_}
 use native.Mathlib.Omega.{arith}
 use native.Mathlib.Decide.{ℕ-discrete, decLe, decLt}
-use Rattle.model.specs.Defs.{Chain, stop, up, Falls, Split, Depth, at-zero, under}
+use Rattle.model.specs.Forests.{Chain, stop, up, Falls, Split, Depth, at-zero, under}
 
 pub same-or : (i j : ℕ) → (i ≡ j) ⊎ (i ≢ j)
 same-or i j = elim (ℕ-discrete i j) [ yes e ↦ inl e | no f ↦ inr f ]

@@ -1,12 +1,16 @@
--- Rel gives a path of derived edges. Assumes nothing.
+-- Rel gives a path of derived edges.
 use mathlib.Core.Path.{_≡_, refl, sym, ap, subst, _∙_}
 use mathlib.Core.Logic.{_≢_, _⊎_, inl, inr, ⊎-elim}
 use Prim.Native.Nat.{ℕ, zero, suc, _≤_, _<_, _+_}
 use native.Mathlib.Omega.{arith}
-use Rattle.model.specs.Defs.{Path*, here, step, Chain, Spec, Edge, In, Loop-rule, Sealed, stop, up, Run, Conforms, Split, Apart, Earlier, Mate, Next, First, Last, Firsts, Lasts, Plain, Back, Derived, Rel, Farthest}
+use Rattle.model.specs.Paths.{Path*, here, step}
+use Rattle.model.specs.Forests.{Chain, stop, up, Split}
+use Rattle.model.specs.Specifications.{Spec, Edge, Domain, Loop-rule, Sealed}
+use Rattle.model.specs.Runs.{Run, Conforms, Mate, Next, First, Last, Firsts, Lasts, Plain, Back, Derived, Farthest}
+use Rattle.model.specs.Relating.{Apart, Earlier, Rel}
 use Rattle.model.proofs.Chains.{same-or, less-or, cases, over, chain-le, chain-eq, chain-parent, chain-dec, chain-join, comparable, no-rung-twice, above-split, one-left, one-right, split-flip}
 use Rattle.model.proofs.Paths.{path-join, path-one, path-last, walk}
-use Rattle.model.proofs.Sealing.{in-or, enters, from-source, to-sink, no-circle, farthest-of, far-chain}
+use Rattle.model.proofs.Sealing.{no-cycle, in-or, enters, from-source, to-sink, no-circle, farthest-of, far-chain}
 use Rattle.model.proofs.Copies.{chain-range, maps, unique, agree, same-or-apart, in-copy, copy-in, block-pos, copy-range, next-pos, earlier, apart, never-apart}
 use Rattle.model.proofs.Groups.{Turn, firsts-or-turn, first-or-next, mate-turn, mate-self, mate-join}
 use Rattle.model.proofs.Descend.{Lands, Fine, descend, follow}
@@ -26,7 +30,7 @@ module _ {s : Spec} {r : Run} (S : Sealed s) (C : Conforms s r) where
       record { m-copy = q .0; m-in = q .1; m-far = rw (q .2) (a .1) }
 
   -- a copy in w's chain of a block that holds z′ too
-  meets-above : {w z′ t : ℕ} → w < r .v → (M : Meets w z′) → Chain (r .parent) (r .context w) t → In s (r .block t) z′ → Chain (r .parent) (M .m-copy) t
+  meets-above : {w z′ t : ℕ} → w < r .v → (M : Meets w z′) → Chain (r .parent) (r .context w) t → Domain s (r .block t) z′ → Chain (r .parent) (M .m-copy) t
   meets-above {w} {z′} {t} hw M c i = agree S C (C .context-range w hw) (M .m-in) c (far-chain S (M .m-far) (r .block t) i (copy-in S C hw c))
 
   turn-pos : {i d : ℕ} (t : Turn s r i d) → 0 < t .q
@@ -85,7 +89,7 @@ module _ {s : Spec} {r : Run} (S : Sealed s) (C : Conforms s r) where
   turn-edge {w} {d} hw t e =
       let n = t .turn-next in
       let L = turn-rule t in
-      let u = descend S C (t .p) (s .sink (r .block (t .q))) (omega (arith, n .later, n .mate .exists)) (S .ranges .sink-range (r .block (t .q)) (turn-block t)) (subst (λ k. In s k (s .sink (r .block (t .q)))) (n .mate .one-block) (L .sink-in)) in
+      let u = descend S C (t .p) (s .sink (r .block (t .q))) (omega (arith, n .later, n .mate .exists)) (S .ranges .sink-range (r .block (t .q)) (turn-block t)) (subst (λ k. Domain s k (s .sink (r .block (t .q)))) (n .mate .one-block) (L .sink-in)) in
       (u .0, back-edge hw (t .turn-in) (t .turn-loop) (t .turn-firsts) n e (u .1), u .1)
 
   turn-over : {i j d : ℕ} (t : Turn s r i d) → Chain (r .parent) j (t .p) → Chain (r .parent) j d
@@ -99,14 +103,14 @@ module _ {s : Spec} {r : Run} (S : Sealed s) (C : Conforms s r) where
   inside {w} {t} hw c z k =
       let ht : t < r .c = chain-range S C (C .context-range w hw) c in
       let L : Loop-rule s (r .block t) = loop-of S C ht z k in
-      let z-in : In s (r .block t) (r .origin w) = copy-in S C hw c in
+      let z-in : Domain s (r .block t) (r .origin w) = copy-in S C hw c in
       cases (same-or (r .origin w) (s .source (r .block t)))
       (λ e. cases (firsts-or-turn s (C .tree) (C .context-range w hw) c)
       (λ f. inr (e, f))
       (λ T. let v = turn-edge hw T (too L e T) in inl (v .0, v .1, turn-over T (v .2 .land-below))))
       (λ d.
       let e = L .some-in (r .origin w) (C .origin-range w hw) z-in d in
-      let e-in : In s (r .block t) (e .0) = L .all-in (r .origin w) (e .0) z-in d (e .1) in
+      let e-in : Domain s (r .block t) (e .0) = L .all-in (r .origin w) (e .0) z-in d (e .1) in
       let M = meets-of w (e .0) hw in
       let ct = meets-above hw M c e-in in
       cases (firsts-or-turn s (C .tree) (C .context-range w hw) (M .m-in))
@@ -117,11 +121,11 @@ module _ {s : Spec} {r : Run} (S : Sealed s) (C : Conforms s r) where
       -- the source of a loop is the source of a loop inside that holds it
       too : Loop-rule s (r .block t) → r .origin w ≡ s .source (r .block t) → (T : Turn s r (r .context w) t) → r .origin w ≡ s .source (r .block (T .q))
       too L e T = cases (same-or (r .origin w) (s .source (r .block (T .q)))) (λ x. x) λ d.
-          let z-in : In s (r .block (T .q)) (r .origin w) = copy-in S C hw (T .turn-in) in
+          let z-in : Domain s (r .block (T .q)) (r .origin w) = copy-in S C hw (T .turn-in) in
           let g = turn-rule T .some-in (r .origin w) (C .origin-range w hw) z-in d in
-          let g-in : In s (r .block (T .q)) (g .0) = turn-rule T .all-in (r .origin w) (g .0) z-in d (g .1) in
-          let g-in′ : In s (r .block t) (g .0) = chain-join g-in (maps S C (T .turn-next .mate .exists) (up (T .turn-above))) in
-          absurd (S .no-cycle (s .source (r .block t)) (g .0) (from-source S L (S .ranges .edge-range (g .0) (r .origin w) (g .1) .0) g-in′) (subst (λ x. Edge s (g .0) x) e (g .1)))
+          let g-in : Domain s (r .block (T .q)) (g .0) = turn-rule T .all-in (r .origin w) (g .0) z-in d (g .1) in
+          let g-in′ : Domain s (r .block t) (g .0) = chain-join g-in (maps S C (T .turn-next .mate .exists) (up (T .turn-above))) in
+          absurd (no-cycle S (s .source (r .block t)) (g .0) (from-source S L (S .ranges .edge-range (g .0) (r .origin w) (g .1) .0) g-in′) (subst (λ x. Edge s (g .0) x) e (g .1)))
 
   abbrev Before-it : ℕ → ℕ → Type 0
   Before-it u w = (v : ℕ) × Derived s r v w × Rel s r u v
@@ -141,13 +145,13 @@ module _ {s : Spec} {r : Run} (S : Sealed s) (C : Conforms s r) where
       (λ g. absurd (omega (arith, g (E .es) ms, E .eless)))
       (λ n.
       let hp : n .0 < r .c = omega (arith, n .1 .later) in
-      let sink-in : In s (r .block (n .0)) (s .sink (r .block (E .et))) = subst (λ k. In s k (s .sink (r .block (E .et)))) (n .1 .mate .one-block) (L .sink-in) in
+      let sink-in : Domain s (r .block (n .0)) (s .sink (r .block (E .et))) = subst (λ k. Domain s k (s .sink (r .block (E .et)))) (n .1 .mate .one-block) (L .sink-in) in
       let mp : Mate r (n .0) (E .es) = mate-join (n .1 .mate) ms in
       cases (same-or (E .es) (n .0))
       (λ e.
       let v = follow S C (n .0) (s .sink (r .block (E .et))) i (C .context-range u hu) (rw e at (E .esplit .left)) (S .ranges .sink-range (r .block (E .et)) (copy-range S C ht (E .esplit .right-pos))) sink-in in
       let D = back-edge hw c k (a .1) (n .1) (a .0) (v .1) in
-      let x-in : In s (r .block (E .et)) (r .origin u) = rw (E .eblock) at (copy-in S C hu (E .esplit .left)) in
+      let x-in : Domain s (r .block (E .et)) (r .origin u) = rw (E .eblock) at (copy-in S C hu (E .esplit .left)) in
       let p : Path* (Edge s) (r .origin u) (r .origin (v .0)) = rw (v .1 .land-origin) (to-sink S L (C .origin-range u hu) x-in) in
       (v .0, D, cases (v .2) (λ f. inr (f, p)) inl))
       (λ d.
@@ -191,7 +195,7 @@ module _ {s : Spec} {r : Run} (S : Sealed s) (C : Conforms s r) where
           (λ A. cases (above-split (C .tree) (A .split) (v .2 .land-below))
               (λ c. cases (chain-parent c)
               (λ q. cases (same-or (A .s) (T .q))
-              (λ x. S .no-cycle (s .source (r .block (T .q))) z′
+              (λ x. no-cycle S (s .source (r .block (T .q))) z′
               (path-join (from-source S L (C .origin-range u hu) (copy-in S C hu (rw x at (A .split .left)))) p)
               (subst (λ x. Edge s z′ x) src e))
               (λ d. f (apart S C (A .split .left) (T .turn-in) (A .split .left-pos) (turn-pos T)
@@ -232,7 +236,7 @@ module _ {s : Spec} {r : Run} (S : Sealed s) (C : Conforms s r) where
 
   no-self : {u w : ℕ} → u ≡ w → Derived s r u w → ⊥
   no-self {u} {w} e D = cases (D .way)
-      (λ P. S .no-cycle (r .origin u) (r .origin u) here (subst (λ x. Edge s (r .origin u) (r .origin x)) (sym e) (P .plain-edge)))
+      (λ P. no-cycle S (r .origin u) (r .origin u) here (subst (λ x. Edge s (r .origin u) (r .origin x)) (sym e) (P .plain-edge)))
       (λ B. omega (arith, B .next .later, no-rung-twice (C .tree) (subst (λ x. Chain (r .parent) (r .context x) (B .from)) e (B .back-u)) (B .back-w) (next-pos S C (B .next)) (B .next .mate .not-zero) (sym (B .next .mate .one-parent))))
 
   pub no-run-cycle : (x y : ℕ) → Path* (Derived s r) x y → Derived s r y x → ⊥

@@ -1,9 +1,13 @@
--- Copies, their blocks and their groups. Assumes nothing.
+-- Copies, their blocks and their groups.
 use mathlib.Core.Path.{_≡_, refl, sym, ap, subst, _∙_}
 use mathlib.Core.Logic.{_≢_, _⊎_, inl, inr, ⊎-elim}
 use Prim.Native.Nat.{ℕ, zero, suc, _≤_, _<_, _+_}
 use native.Mathlib.Omega.{arith}
-use Rattle.model.specs.Defs.{Path*, here, step, Chain, Spec, Edge, In, Sealed, stop, up, Run, Conforms, Split, Apart, Earlier, Mate, Next, First, Last, Firsts, Lasts}
+use Rattle.model.specs.Paths.{Path*, here, step}
+use Rattle.model.specs.Forests.{Chain, stop, up, Split}
+use Rattle.model.specs.Specifications.{Spec, Edge, Domain, Sealed}
+use Rattle.model.specs.Runs.{Run, Conforms, Mate, Next, First, Last, Firsts, Lasts}
+use Rattle.model.specs.Relating.{Apart, Earlier}
 use Rattle.model.proofs.Chains.{same-or, zero-or, less-or, chain-le, chain-eq, chain-parent, chain-dec, chain-join, comparable, no-rung-twice, strictly-not}
 
 module _ {s : Spec} {r : Run} (S : Sealed s) (C : Conforms s r) where
@@ -67,10 +71,10 @@ module _ {s : Spec} {r : Run} (S : Sealed s) (C : Conforms s r) where
   same-or-apart {q = q} = apart-go q (omega arith)
 
   -- of a step
-  pub in-copy : {u k : ℕ} → u < r .v → In s k (r .origin u) → (q : ℕ) × Chain (r .parent) (r .context u) q × (r .block q ≡ k)
+  pub in-copy : {u k : ℕ} → u < r .v → Domain s k (r .origin u) → (q : ℕ) × Chain (r .parent) (r .context u) q × (r .block q ≡ k)
   in-copy {u} h i = copy-of (C .context-range u h) (rw (C .at-home u h) at i)
 
-  pub copy-in : {u q : ℕ} → u < r .v → Chain (r .parent) (r .context u) q → In s (r .block q) (r .origin u)
+  pub copy-in : {u q : ℕ} → u < r .v → Chain (r .parent) (r .context u) q → Domain s (r .block q) (r .origin u)
   copy-in {u} h c = rw (C .at-home u h) (maps (C .context-range u h) c)
 
   pub copy-range : {q : ℕ} → q < r .c → 0 < q → r .block q < s .b

@@ -1,11 +1,13 @@
--- Every word of the theorem has a test. Assumes nothing.
+-- Every word of the theorem has a test.
 use mathlib.Core.Path.{_≡_, refl, sym, ap, subst, _∙_}
 use mathlib.Core.Logic.{_≢_, _⊎_, _↔_, inl, inr}
 use mathlib.Core.Bool.{Bool, true, false}
 use Prim.Native.Nat.{ℕ, zero, suc, _≤_, _<_, _+_}
 use native.Mathlib.Omega.{arith}
 use lib.Dec.{T}
-use Rattle.model.specs.Defs.{Chain, stop, up, Falls, Spec, Edge, In, Run, Mate, First, Last, Next, Lasts, Firsts, Farthest, Plain, Back, Derived}
+use Rattle.model.specs.Forests.{Chain, stop, up, Falls}
+use Rattle.model.specs.Specifications.{Spec, Edge, Domain}
+use Rattle.model.specs.Runs.{Run, Mate, First, Last, Next, Lasts, Firsts, Farthest, Plain, Back, Derived}
 use Rattle.model.proofs.Chains.{cases, chain-le, depth-of, depth-le, depth-chain}
 use Rattle.model.proofs.Tests.{Test, by-test, test-eq, test-le, test-lt, test-bool, test-and, test-or, test-not, test-imp, test-as, test-all, test-any, test-chain}
 
@@ -29,7 +31,7 @@ module _ (r : Run) where
       (test-and (test-mate q p) (test-and (test-lt q p) (test-all (r .c) (λ j. test-imp (test-mate q j) (test-imp (test-lt q j) (test-le p j))))))
 
 module _ (s : Spec) (r : Run) (nest : Falls (s .above)) (tree : Falls (r .parent)) where
-  abbrev pub test-in : (k x : ℕ) → Test (In s k x)
+  abbrev pub test-in : (k x : ℕ) → Test (Domain s k x)
   test-in k x = test-chain nest (s .home x) k
 
   abbrev pub test-firsts : (i d : ℕ) → Test (Firsts s r i d)

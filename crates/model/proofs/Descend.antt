@@ -1,9 +1,13 @@
--- A step below a given copy with a given origin. Assumes nothing.
+-- A step below a given copy with a given origin.
 use mathlib.Core.Path.{_≡_, refl, sym, ap, subst, _∙_}
 use mathlib.Core.Logic.{_≢_, _⊎_, inl, inr, ⊎-elim}
 use Prim.Native.Nat.{ℕ, zero, suc, _≤_, _<_, _+_}
 use native.Mathlib.Omega.{arith}
-use Rattle.model.specs.Defs.{Path*, here, step, Chain, Spec, Edge, In, Loop-rule, Sealed, stop, up, Run, Conforms, Split, Apart, Earlier, Mate, Next, First, Last, Firsts, Lasts}
+use Rattle.model.specs.Paths.{Path*, here, step}
+use Rattle.model.specs.Forests.{Chain, stop, up, Split}
+use Rattle.model.specs.Specifications.{Spec, Edge, Domain, Loop-rule, Sealed}
+use Rattle.model.specs.Runs.{Run, Conforms, Mate, Next, First, Last, Firsts, Lasts}
+use Rattle.model.specs.Relating.{Apart, Earlier}
 use Rattle.model.proofs.Chains.{same-or, zero-or, cases, over, chain-le, chain-eq, chain-parent, chain-child, chain-dec, chain-join, comparable, no-rung-twice, above-split}
 use Rattle.model.proofs.Sealing.{in-range}
 use Rattle.model.proofs.Copies.{chain-range, maps, unique, agree, block-pos, copy-range, next-pos, earlier, apart}
@@ -39,7 +43,7 @@ module _ {s : Spec} {r : Run} (S : Sealed s) (C : Conforms s r) where
   -- the child of d on the way to y, and how it is nearer
   record Way (d y m : ℕ) : Type 0 where
     way-k : ℕ
-    way-in : In s way-k y
+    way-in : Domain s way-k y
     way-above : s .above way-k ≡ r .block d
     way-pos : 0 < way-k
     way-range : way-k < s .b
@@ -47,7 +51,7 @@ module _ {s : Spec} {r : Run} (S : Sealed s) (C : Conforms s r) where
     way-less : m ≡ suc way-m
     way-fuel : s .home y ≤ way-k + way-m
 
-  way-of : (m d y : ℕ) → y < s .n → In s (r .block d) y → s .home y ≤ r .block d + m → (s .home y ≡ r .block d) ⊎ Way d y m
+  way-of : (m d y : ℕ) → y < s .n → Domain s (r .block d) y → s .home y ≤ r .block d + m → (s .home y ≡ r .block d) ⊎ Way d y m
   way-of zero d y hy i l = inl (omega (arith, chain-le (S .ranges .nest) i))
   way-of (suc m) d y hy i l = cases (chain-child i) inl λ k.
       let z : 0 < k .0 = cases (zero-or (k .0)) (λ e. absurd (k .3 (e ∙ sym (S .ranges .nest .zero-parent) ∙ ap (s .above) (sym e) ∙ k .2))) (λ x. x) in
@@ -69,7 +73,7 @@ module _ {s : Spec} {r : Run} (S : Sealed s) (C : Conforms s r) where
       let e = last-of (j .0) (j .1) (j .2) in
       (e .0, e .1 .exists, e .1 .not-zero, e .1 .one-parent ∙ j .3, e .1 .one-block ∙ j .4, e .2)
 
-  descend-go : (m d y : ℕ) → d < r .c → y < s .n → In s (r .block d) y → s .home y ≤ r .block d + m → (v : ℕ) × Lands s r d y v
+  descend-go : (m d y : ℕ) → d < r .c → y < s .n → Domain s (r .block d) y → s .home y ≤ r .block d + m → (v : ℕ) × Lands s r d y v
   descend-go zero d y hd hy i l = let u = land-here d y hd hy (omega (arith, chain-le (S .ranges .nest) i)) in (u .0, u .1)
   descend-go (suc m) d y hd hy i l = cases (way-of (suc m) d y hy i l)
       (λ e. let u = land-here d y hd hy e in (u .0, u .1))
@@ -77,7 +81,7 @@ module _ {s : Spec} {r : Run} (S : Sealed s) (C : Conforms s r) where
       let u = descend-go m (e .0) y (e .1) hy (rw (e .4) (w .way-in)) (omega (arith, e .4, w .way-fuel, w .way-less)) in
       (u .0, lower (e .3) (λ k. e .5) (u .1)))
 
-  pub descend : (d y : ℕ) → d < r .c → y < s .n → In s (r .block d) y → (v : ℕ) × Lands s r d y v
+  pub descend : (d y : ℕ) → d < r .c → y < s .n → Domain s (r .block d) y → (v : ℕ) × Lands s r d y v
   descend d y hd hy i = descend-go (s .home y) d y hd hy i (omega arith)
 
   -- the same, following the chain of i
@@ -90,7 +94,7 @@ module _ {s : Spec} {r : Run} (S : Sealed s) (C : Conforms s r) where
       (u .0, u .1, inl (λ A. A .differ (no-rung-twice (C .tree) (A .split .left) (chain-join id (rw (u .2) at (A .split .right))) (A .split .left-pos) (A .split .right-pos) (A .split .same-parent))))
 
   -- the chain of i ends at d, or goes on to another block than k
-  follow-fresh : (d y i k : ℕ) → d < r .c → y < s .n → In s k y → 0 < k → k < s .b → s .above k ≡ r .block d → Chain (r .parent) i d
+  follow-fresh : (d y i k : ℕ) → d < r .c → y < s .n → Domain s k y → 0 < k → k < s .b → s .above k ≡ r .block d → Chain (r .parent) i d
       → ((q : ℕ) → Chain (r .parent) i q → 0 < q → r .parent q ≡ d → r .block q ≡ k → ⊥) → Follows d y i
   follow-fresh d y i k hd hy y-in hk hb a id none =
       let e = last-child d k hd hk hb a in
@@ -105,7 +109,7 @@ module _ {s : Spec} {r : Run} (S : Sealed s) (C : Conforms s r) where
             (λ c. none (e .0) c (e .2) (e .3) (e .4))),
       )
 
-  follow-go : (m d y i : ℕ) → i < r .c → Chain (r .parent) i d → y < s .n → In s (r .block d) y → s .home y ≤ r .block d + m → Follows d y i
+  follow-go : (m d y i : ℕ) → i < r .c → Chain (r .parent) i d → y < s .n → Domain s (r .block d) y → s .home y ≤ r .block d + m → Follows d y i
   follow-go zero d y i hi id hy y-in l = follow-home d y i (chain-range S C hi id) hy (omega (arith, chain-le (S .ranges .nest) y-in)) id
   follow-go (suc m) d y i hi id hy y-in l = cases (way-of (suc m) d y hy y-in l)
       (λ e. follow-home d y i hd hy e id)
@@ -137,5 +141,5 @@ module _ {s : Spec} {r : Run} (S : Sealed s) (C : Conforms s r) where
       hd : d < r .c
       hd = chain-range S C hi id
 
-  pub follow : (d y i : ℕ) → i < r .c → Chain (r .parent) i d → y < s .n → In s (r .block d) y → Follows d y i
+  pub follow : (d y i : ℕ) → i < r .c → Chain (r .parent) i d → y < s .n → Domain s (r .block d) y → Follows d y i
   follow d y i hi id hy y-in = follow-go (s .home y) d y i hi id hy y-in (omega arith)

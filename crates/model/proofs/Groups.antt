@@ -1,9 +1,11 @@
--- First, last and next in a group. Assumes nothing.
+-- First, last and next in a group.
 use mathlib.Core.Path.{_≡_, refl, sym, ap, subst, _∙_}
 use mathlib.Core.Logic.{_≢_, _⊎_, inl, inr, ⊎-elim}
 use Prim.Native.Nat.{ℕ, zero, suc, _≤_, _<_, _+_}
 use native.Mathlib.Omega.{arith}
-use Rattle.model.specs.Defs.{Chain, stop, up, Spec, Run, Falls, Mate, Next, First, Last, Firsts, Lasts}
+use Rattle.model.specs.Forests.{Chain, stop, up, Falls}
+use Rattle.model.specs.Specifications.{Spec}
+use Rattle.model.specs.Runs.{Run, Mate, Next, First, Last, Firsts, Lasts}
 use Rattle.model.proofs.Chains.{same-or, zero-or, less-or, cases, chain-le, chain-eq, chain-parent, chain-join, comparable}
 
 -- q is the lowest copy below d in the chain of i that is a loop's and not the first of its group

@@ -1,13 +1,17 @@
--- The two-round import is sealed and conforms. Assumes nothing.
+-- The two-round import is sealed and conforms.
 use mathlib.Core.Path.{_≡_, refl, sym, ap, subst, _∙_}
 use mathlib.Core.Logic.{_≢_, _⊎_, _↔_, inl, inr}
 use mathlib.Core.Bool.{Bool, true, false, _&&_}
 use Prim.Native.Nat.{ℕ, zero, suc, _≤_, _<_, _+_}
 use native.Mathlib.Omega.{arith}
 use lib.Dec.{T, eqb, leb, leb→le, eqb→eq}
-use Rattle.model.specs.Defs.{Path*, here, step, Chain, stop, up, Falls, Spec, Edge, In, Link, Run, Mate, Derived, Loop-rule, Fork-rule, Fork-ends, In-ranges, Sealed, Conforms}
-use Rattle.model.specs.Orders.{order1, order2, order3, Position, Label, Labelled, Yes, by-equal, by-loop, by-reach}
-use Rattle.model.specs.Import.{import-spec, import-run, import-label, Says, Import-law}
+use Rattle.model.specs.Paths.{Path*, here, step}
+use Rattle.model.specs.Forests.{Chain, stop, up, Falls}
+use Rattle.model.specs.Specifications.{Spec, Edge, Domain, Link, Loop-rule, Fork-domain, Fork-rule, Fork-ends, In-ranges, Sealed}
+use Rattle.model.specs.Runs.{Run, Mate, Derived, Conforms}
+use Rattle.model.specs.Orders.{order1, order2, order3, Position}
+use Rattle.model.specs.Labels.{Label, Labelled, Yes, by-equal, by-loop, by-reach}
+use Rattle.model.specs.TwoRound.{import-spec, import-run, import-label, Says, Import-law}
 use Rattle.model.proofs.Before.{position-at, total, test-before}
 use Rattle.model.proofs.Chains.{cases, chain-le}
 use Rattle.model.proofs.Tests.{Test, by-test, test-eq, test-le, test-lt, test-bool, test-and, test-or, test-not, test-imp, test-as, test-all, test-any, test-chain, and-so}
@@ -51,7 +55,7 @@ derived-now = by-test (test-all 9 (λ u. test-all 9 (λ w. test-and
     (test-imp (test-bool (import-run .listed u w)) (test-derived import-spec import-run nest-falls tree-falls u w))
     (test-imp (test-derived import-spec import-run nest-falls tree-falls u w) (test-bool (import-run .listed u w)))))) tt
 
-abbrev t-in : (k x : ℕ) → Test (In import-spec k x)
+abbrev t-in : (k x : ℕ) → Test (Domain import-spec k x)
 t-in k x = test-in import-spec import-run nest-falls tree-falls k x
 
 abbrev t-edge : (x y : ℕ) → Test (Edge import-spec x y)
@@ -81,10 +85,10 @@ loop-one = record {
   all-out = λ x y i d e. let b = edge-low x y e in by-test (test-all 5 (λ x. test-all 5 (λ y. test-imp (t-in 1 x) (test-imp (test-not (test-eq x 3)) (test-imp (t-edge x y) (t-in 1 y)))))) tt x (b .0) y (b .1) i d e;
 }
 
-only-two : (x : ℕ) → x < 5 → In import-spec 2 x → x ≡ 2
+only-two : (x : ℕ) → x < 5 → Domain import-spec 2 x → x ≡ 2
 only-two = by-test (test-all 5 (λ x. test-imp (t-in 2 x) (test-eq x 2))) tt
 
-fork-two : Fork-rule import-spec 2
+fork-two : Fork-domain import-spec 2
 fork-two = record {
   not-empty = (2, omega arith, stop);
   source-out = λ i. omega (arith, chain-le nest-falls i);
@@ -133,13 +137,11 @@ other-kind = by-test (test-all 3 (λ k. test-imp (test-lt 0 k) (test-not (test-e
 pub import-sealed : Sealed import-spec
 import-sealed = record {
   ranges = import-ranges;
-  no-cycle = λ x y p e. omega (arith, path-le p, edge-is y x e .0);
-  no-edge-in = no-in;
-  no-edge-out = no-out;
+  acyclic = λ x c. omega (arith, path-le (c .1), edge-is (c .0) x (c .2) .0);
+  whole-ends = record { only-source = no-in; only-sink = no-out };
   loops = blocks (Loop-rule import-spec) (λ e. loop-one);
-  forks = forks-of (Fork-rule import-spec) fork-two;
-  fork-ends = forks-of (Fork-ends import-spec) fork-two-ends;
-  different = λ k z l e. absurd (other-kind k l z e);
+  forks = forks-of (Fork-rule import-spec) (record { inner = fork-two; ends = fork-two-ends });
+  distinct = λ k z l e. absurd (other-kind k l z e);
 }
 
 listed-low : (u w : ℕ) → T (import-run .listed u w) → (u < 9) × (w < 9)

@@ -1,15 +1,21 @@
--- What the three positions tell. Assumes nothing.
+-- What the three positions tell.
 use mathlib.Core.Path.{_≡_, refl, sym, ap, subst, _∙_}
 use mathlib.Core.Logic.{_≢_, _⊎_, inl, inr}
 use mathlib.Core.Bool.{Bool, true, false}
 use Prim.Native.Nat.{ℕ, zero, suc, _≤_, _<_, _+_}
 use native.Mathlib.Omega.{arith}
-use Rattle.model.specs.Defs.{Path*, here, step, Chain, stop, up, Spec, Edge, Sealed, Run, Conforms, Split, Apart, Earlier, Derived, Rel}
-use Rattle.model.specs.Orders.{order1, order2, order3, Turned, Sooner, Branch, Before, Position, Label, Labelled, Other, Yes, by-equal, by-loop, by-reach}
+use Rattle.model.specs.Paths.{Path*, here, step}
+use Rattle.model.specs.Forests.{Chain, stop, up, Split}
+use Rattle.model.specs.Specifications.{Spec, Edge, Sealed}
+use Rattle.model.specs.Runs.{Run, Conforms, Derived}
+use Rattle.model.specs.Relating.{Apart, Earlier, Rel}
+use Rattle.model.specs.Orders.{order1, order2, order3, Turned, Sooner, Branch, Before, Position}
+use Rattle.model.specs.Labels.{Label, Labelled, Other, Yes, by-equal, by-loop, by-reach}
 use Rattle.model.proofs.Chains.{same-or, less-or, cases, chain-join, no-rung-twice, split-flip, one-left, one-right}
 use Rattle.model.proofs.Copies.{chain-range, block-pos, copy-range, earlier, never-apart}
 use Rattle.model.proofs.Orders.{meet, branch, position-less, position-same, position-copy, position-one}
-use Rattle.model.specs.Law.{Listed, Path⁺}
+use Rattle.model.specs.Paths.{Path⁺}
+use Rattle.model.specs.Laws.{Listed}
 use Rattle.model.proofs.Paths.{path-map, path-last}
 use Rattle.model.proofs.Sound.{sound}
 use Rattle.model.proofs.Complete.{complete, no-run-cycle}

@@ -1,10 +1,12 @@
--- Before is a strict total order; positions. Assumes nothing.
+-- Before is a strict total order; positions.
 use mathlib.Core.Path.{_≡_, refl, sym, ap, subst, _∙_}
 use mathlib.Core.Logic.{_≢_, _⊎_, inl, inr}
 use mathlib.Core.Bool.{Bool, true, false}
 use Prim.Native.Nat.{ℕ, zero, suc, _≤_, _<_, _+_}
 use native.Mathlib.Omega.{arith}
-use Rattle.model.specs.Defs.{Chain, stop, up, Falls, Spec, Run, Split}
+use Rattle.model.specs.Forests.{Chain, stop, up, Falls, Split}
+use Rattle.model.specs.Specifications.{Spec}
+use Rattle.model.specs.Runs.{Run}
 use Rattle.model.specs.Orders.{Turned, Sooner, Branch, Before, Count, none, hit, miss, Position}
 use Rattle.model.proofs.Chains.{same-or, zero-or, less-or, cases, over, chain-le, chain-eq, chain-parent, chain-child, chain-join, comparable, no-rung-twice, split-flip}
 

@@ -1,11 +1,11 @@
--- Paths, and walks that end. Assumes nothing.
+-- Paths, and walks that end.
 use mathlib.Core.Path.{_≡_, refl, sym, ap, subst, _∙_}
 use mathlib.Core.Logic.{_≢_, _⊎_, inl, inr, ⊎-elim}
 use mathlib.Core.Bool.{Bool, true, false, _||_}
 use Prim.Native.Nat.{ℕ, zero, suc, _≤_, _<_, _+_}
 use native.Mathlib.Omega.{arith}
 use lib.Dec.{T}
-use Rattle.model.specs.Defs.{Path*, here, step}
+use Rattle.model.specs.Paths.{Path*, here, step}
 use Rattle.model.proofs.Chains.{same-or}
 
 pub path-join : {R : ℕ → ℕ → Type 0} {x y z : ℕ} → Path* R x y → Path* R y z → Path* R x z

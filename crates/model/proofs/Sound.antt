@@ -1,9 +1,13 @@
--- A path of derived edges gives Rel. Assumes nothing.
+-- A path of derived edges gives Rel.
 use mathlib.Core.Path.{_≡_, refl, sym, ap, subst, _∙_}
 use mathlib.Core.Logic.{_≢_, _⊎_, inl, inr, ⊎-elim}
 use Prim.Native.Nat.{ℕ, zero, suc, _≤_, _<_, _+_}
 use native.Mathlib.Omega.{arith}
-use Rattle.model.specs.Defs.{Path*, here, step, Chain, Spec, Edge, In, Loop-rule, Sealed, stop, up, Run, Conforms, Split, Apart, Earlier, Mate, Next, First, Last, Firsts, Lasts, Plain, Back, Derived, Rel, Farthest}
+use Rattle.model.specs.Paths.{Path*, here, step}
+use Rattle.model.specs.Forests.{Chain, stop, up, Split}
+use Rattle.model.specs.Specifications.{Spec, Edge, Domain, Loop-rule, Sealed}
+use Rattle.model.specs.Runs.{Run, Conforms, Mate, Next, First, Last, Firsts, Lasts, Plain, Back, Derived, Farthest}
+use Rattle.model.specs.Relating.{Apart, Earlier, Rel}
 use Rattle.model.proofs.Chains.{same-or, chain-le, chain-eq, chain-parent, chain-dec, chain-join, comparable, no-rung-twice, over, cases}
 use Rattle.model.proofs.Paths.{path-join, path-one}
 use Rattle.model.proofs.Sealing.{in-or, enters, leaves, from-source, to-sink, enters-at-source, no-way-back, far-chain}
@@ -14,26 +18,26 @@ module _ {s : Spec} {r : Run} (S : Sealed s) (C : Conforms s r) where
   loop-of {q} h z k = S .loops (r .block q) (block-pos S C z h) (copy-range S C h z) k
 
   -- the copy t of a block that holds both ends of a plain edge, in one chain and so in the other
-  pub plain-right : {v w t : ℕ} → v < r .v → w < r .v → Plain s r v w → Chain (r .parent) (r .context w) t → In s (r .block t) (r .origin v) → Chain (r .parent) (r .context v) t
+  pub plain-right : {v w t : ℕ} → v < r .v → w < r .v → Plain s r v w → Chain (r .parent) (r .context w) t → Domain s (r .block t) (r .origin v) → Chain (r .parent) (r .context v) t
   plain-right {v} {w} {t} hv hw P c i =
       chain-join (P .in-u) (agree S C (C .context-range w hw) (P .in-w) c (far-chain S (P .far) (r .block t) i (copy-in S C hw c)))
 
-  pub plain-left : {v w t : ℕ} → v < r .v → w < r .v → Plain s r v w → Chain (r .parent) (r .context v) t → In s (r .block t) (r .origin w) → Chain (r .parent) (r .context w) t
+  pub plain-left : {v w t : ℕ} → v < r .v → w < r .v → Plain s r v w → Chain (r .parent) (r .context v) t → Domain s (r .block t) (r .origin w) → Chain (r .parent) (r .context w) t
   plain-left {v} {w} {t} hv hw P c i =
       chain-join (P .in-w) (agree S C (C .context-range v hv) (P .in-u) c (far-chain S (P .far) (r .block t) (copy-in S C hv c) i))
 
   earlier-plain : {u v w : ℕ} → u < r .v → v < r .v → w < r .v → Earlier s r (r .context u) (r .context v) → Plain s r v w → Rel s r u w
   earlier-plain {u} {v} {w} hu hv hw E P =
       let c : Chain (r .parent) (r .context v) (E .et) = E .esplit .right in
-      let y-in : In s (r .block (E .et)) (r .origin v) = copy-in S C hv c in
-      let x-in : In s (r .block (E .et)) (r .origin u) = rw (E .eblock) at (copy-in S C hu (E .esplit .left)) in
+      let y-in : Domain s (r .block (E .et)) (r .origin v) = copy-in S C hv c in
+      let x-in : Domain s (r .block (E .et)) (r .origin u) = rw (E .eblock) at (copy-in S C hu (E .esplit .left)) in
       let L : Loop-rule s (r .block (E .et)) = loop-of (chain-range S C (C .context-range v hv) c) (E .esplit .right-pos) (rw (E .eblock) at (E .eloop)) in
       ⊎-elim
       (λ z-in. inl (earlier S C (E .esplit .left) (plain-left hv hw P c z-in) (E .esplit .left-pos) (E .esplit .same-parent) (E .eblock) (E .eless) (E .eloop)))
       (λ z-out. inr (
         (λ A.
-            let x-in′ : In s (r .block (A .t)) (r .origin u) = rw (A .same-block) at (copy-in S C hu (A .split .left)) in
-            let z-in′ : In s (r .block (A .t)) (r .origin w) = copy-in S C hw (A .split .right) in
+            let x-in′ : Domain s (r .block (A .t)) (r .origin u) = rw (A .same-block) at (copy-in S C hu (A .split .left)) in
+            let z-in′ : Domain s (r .block (A .t)) (r .origin w) = copy-in S C hw (A .split .right) in
             ⊎-elim
             (λ k. ⊎-elim
             (λ e. z-out (rw (← e) at z-in′))
@@ -71,8 +75,8 @@ module _ {s : Spec} {r : Run} (S : Sealed s) (C : Conforms s r) where
   path-plain : {u v w : ℕ} → u < r .v → v < r .v → w < r .v → (¬ (Apart r (r .context u) (r .context v))) → Path* (Edge s) (r .origin u) (r .origin v) → Plain s r v w → Rel s r u w
   path-plain {u} {v} {w} hu hv hw f p P = inr (
     (λ A.
-        let x-in : In s (r .block (A .t)) (r .origin u) = rw (A .same-block) at (copy-in S C hu (A .split .left)) in
-        let z-in : In s (r .block (A .t)) (r .origin w) = copy-in S C hw (A .split .right) in
+        let x-in : Domain s (r .block (A .t)) (r .origin u) = rw (A .same-block) at (copy-in S C hu (A .split .left)) in
+        let z-in : Domain s (r .block (A .t)) (r .origin w) = copy-in S C hw (A .split .right) in
         ⊎-elim
         (λ y-in. f (apart S C (A .split .left) (plain-right hv hw P (A .split .right) y-in) (A .split .left-pos) (A .split .right-pos) (A .split .same-parent) (A .same-block) (A .differ)))
         (λ y-out. no-way-back S (block-pos S C (A .split .right-pos) (chain-range S C (C .context-range w hw) (A .split .right))) (C .origin-range u hu) x-in p y-out (P .plain-edge) z-in)
@@ -102,9 +106,9 @@ module _ {s : Spec} {r : Run} (S : Sealed s) (C : Conforms s r) where
       ))
       (in-or S (r .block (B .from)) (r .origin u))
     where
-      within : (A : Apart r (r .context u) (r .context w)) → Chain (r .parent) (A .t) (B .to) → In s (r .block (B .from)) (r .origin u)
+      within : (A : Apart r (r .context u) (r .context w)) → Chain (r .parent) (A .t) (B .to) → Domain s (r .block (B .from)) (r .origin u)
       within A k =
-          let x-in : In s (r .block (A .t)) (r .origin u) = rw (A .same-block) at (copy-in S C hu (A .split .left)) in
+          let x-in : Domain s (r .block (A .t)) (r .origin u) = rw (A .same-block) at (copy-in S C hu (A .split .left)) in
           rw (B .next .mate .one-block) at (chain-join x-in (maps S C (chain-range S C (C .context-range w hw) (A .split .right)) k))
 
   pub rel-step : {u v w : ℕ} → u < r .v → Rel s r u v → Derived s r v w → Rel s r u w

@@ -1,4 +1,4 @@
--- Lists as the functions of a specification and a run. Assumes nothing.
+-- Lists as the functions of a specification and a run.
 use mathlib.Core.Path.{_≡_, refl, sym, ap, subst, _∙_}
 use mathlib.Core.Logic.{_≢_, _⊎_, _↔_, inl, inr}
 use mathlib.Core.List.{List, [], _∷_}
@@ -7,7 +7,7 @@ use Prim.Native.Nat.{ℕ, zero, suc, _≤_, _<_, _+_}
 use native.Mathlib.Omega.{arith}
 use lib.Dec.{T, eqb, eqb→eq, eqb-refl}
 use lib.ListN.{length, getD, List·getD-eq-default}
-use Rattle.model.specs.Defs.{Falls}
+use Rattle.model.specs.Forests.{Falls}
 use Rattle.model.proofs.Chains.{cases, less-or}
 use Rattle.model.proofs.Tests.{and-so, and-thus, or-so, or-thus, eq→eqb}
 

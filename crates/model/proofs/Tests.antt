@@ -1,11 +1,11 @@
--- Tests that compute, of bounded statements. Assumes nothing.
+-- Tests that compute, of bounded statements.
 use mathlib.Core.Path.{_≡_, refl, sym, ap, subst, _∙_}
 use mathlib.Core.Logic.{_≢_, _⊎_, _↔_, inl, inr}
 use mathlib.Core.Bool.{Bool, true, false, _&&_, _||_, not}
 use Prim.Native.Nat.{ℕ, zero, suc, _≤_, _<_, _+_}
 use native.Mathlib.Omega.{arith}
 use lib.Dec.{T, eqb, leb, ltb, leb→le, le→leb, eqb→eq, eqb-refl}
-use Rattle.model.specs.Defs.{Chain, stop, up, Falls}
+use Rattle.model.specs.Forests.{Chain, stop, up, Falls}
 use Rattle.model.proofs.Chains.{same-or, cases, chain-le, chain-eq, chain-parent}
 
 pub eq→eqb : (a b : ℕ) → a ≡ b → T (eqb a b)

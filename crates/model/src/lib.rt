@@ -1,5 +1,5 @@
-ghost use Rattle.model.specs.Law.{Path-law, Order-law, Label-law, Apart-law, After-law, Growth-law, Answer-law};
-ghost use Rattle.model.specs.Import.{Import-law};
+ghost use Rattle.model.specs.Laws.{Path-law, Order-law, Label-law, Apart-law, After-law, Growth-law, Answer-law};
+ghost use Rattle.model.specs.TwoRound.{Import-law};
 
 pub fn path_law_stands() -> u8
     ensures { λ _. ⌜ Path-law ⌝ }

@@ -1,19 +1,20 @@
--- The theorems. Assumes nothing.
+-- The laws over runs and labels.
 use mathlib.Core.Path.{_≡_}
 use mathlib.Core.Logic.{_≢_, _⊎_, _↔_}
 use mathlib.Core.Bool.{Bool}
 use Prim.Native.Nat.{ℕ, _≤_, _<_}
 use lib.Dec.{T}
-use Rattle.model.specs.Defs.{Path*, Chain, Spec, Edge, Sealed, Run, Conforms, Derived, Rel}
-use Rattle.model.specs.Orders.{order1, order2, order3, Before, Position, Label, Labelled, Yes, Answer}
+use Rattle.model.specs.Paths.{Path⁺, Path*}
+use Rattle.model.specs.Forests.{Chain}
+use Rattle.model.specs.Specifications.{Spec, Edge, Sealed}
+use Rattle.model.specs.Runs.{Run, Conforms, Derived}
+use Rattle.model.specs.Relating.{Rel}
+use Rattle.model.specs.Orders.{order1, order2, order3, Before, Position}
+use Rattle.model.specs.Labels.{Label, Labelled, Yes, Answer}
 
 -- the run's file lists the edge from u to w
 abbrev pub Listed : Run → ℕ → ℕ → Type 0
 Listed r u w = T (r .listed u w)
-
--- one or more edges
-abbrev pub Path⁺ : (ℕ → ℕ → Type 0) → ℕ → ℕ → Type 0
-Path⁺ R x z = (y : ℕ) × Path* R x y × R y z
 
 -- a path of the run's edges leads from u to w exactly when the relation of contexts and origins holds
 abbrev pub Path-law : Type 0

@@ -1,9 +1,11 @@
--- The two-round import: a specification and a run. Assumes nothing.
+-- The two-round import: a specification and a run.
 use mathlib.Core.Bool.{Bool, true, false, _&&_, _||_}
 use Prim.Native.Nat.{ℕ, zero, suc}
 use lib.Dec.{eqb, leb}
-use Rattle.model.specs.Defs.{Spec, Run, Path*, Edge, Sealed, Conforms}
-use Rattle.model.specs.Orders.{Label, Labelled, Yes}
+use Rattle.model.specs.Paths.{Path*}
+use Rattle.model.specs.Specifications.{Spec, Edge, Sealed}
+use Rattle.model.specs.Runs.{Run, Conforms}
+use Rattle.model.specs.Labels.{Label, Labelled, Yes}
 use mathlib.Core.Logic.{_↔_}
 use Prim.Native.Nat.{_<_}
 
@@ -29,6 +31,7 @@ import-spec = record {
   b = 3;
   edge = λ x y. eqb y (suc x) && leb (suc x) 4;
   home = at5 0 1 2 1 0;
+  tool = λ x. 0;
   above = at5 0 0 1 0 0;
   kind = at5 0 2 1 0 0;
   source = at5 0 1 1 0 0;
