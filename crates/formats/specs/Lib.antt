@@ -1,0 +1,5 @@
+pub mod Tables
+pub mod Faults
+pub mod Words
+pub mod Kinds
+pub mod Sections

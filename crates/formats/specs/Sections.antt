@@ -1,0 +1,58 @@
+-- Sections: two parallel arrays, the first numbers of all records and then their second numbers.
+use mathlib.Core.Path.{_≡_}
+use mathlib.Core.Logic.{_⊎_}
+use mathlib.Core.List.{List, map}
+use Prim.Native.Nat.{ℕ, _+_, _*_, _-_, _<_}
+use Rattle.std.specs.Iters.{counting}
+use Rattle.std.specs.declared.option.Option.{Option}
+use Rattle.std.specs.declared.option.Option.the-variants.{Some, None}
+use Rattle.formats.specs.Words.{word}
+use Rattle.formats.specs.Kinds.{Kind, Within}
+use Rattle.formats.specs.declared.records.Bounds.{Bounds}
+
+-- byte positions of the two numbers of record i, in a section of `count` records from byte `base`
+abbrev pub first-at : ℕ → ℕ → ℕ → ℕ
+first-at base count i = base + 2 * i
+
+abbrev pub second-at : ℕ → ℕ → ℕ → ℕ
+second-at base count i = base + 2 * (count + i)
+
+-- the records that a section states
+abbrev pub section : {R : Type 0} → (ℕ → ℕ → R) → List ℕ → ℕ → ℕ → List R
+section made bytes base count = map (λ i. made (word bytes (first-at base count i)) (word bytes (second-at base count i))) (counting 0 count)
+
+-- p is the lowest number of which P holds
+abbrev pub Lowest : (ℕ → Type 0) → ℕ → Type 0
+Lowest P p = P p × ((q : ℕ) → q < p → ¬ (P q))
+
+-- the two numbers of record i lie in their ranges
+abbrev pub First-within : Kind → Bounds → List ℕ → ℕ → ℕ → ℕ → Type 0
+First-within k w bytes base count i = Within (k .firsts w i) (word bytes (first-at base count i))
+
+abbrev pub Second-within : Kind → Bounds → List ℕ → ℕ → ℕ → ℕ → Type 0
+Second-within k w bytes base count i = Within (k .seconds w i) (word bytes (second-at base count i))
+
+-- p is the byte position of a number of the section that lies outside its range
+abbrev pub Outside : Kind → Bounds → List ℕ → ℕ → ℕ → ℕ → Type 0
+Outside k w bytes base count p =
+    ((i : ℕ) × (i < count) × (p ≡ first-at base count i) × (¬ (First-within k w bytes base count i)))
+    ⊎ ((i : ℕ) × (i < count) × (p ≡ second-at base count i) × (¬ (Second-within k w bytes base count i)))
+
+-- every number of the section lies in its range
+abbrev pub Inside : Kind → Bounds → List ℕ → ℕ → ℕ → Type 0
+Inside k w bytes base count = (i : ℕ) → i < count → First-within k w bytes base count i × Second-within k w bytes base count i
+
+-- record i is above record i - 1: by its first number, or by its second where the first numbers are equal
+abbrev pub Ascends : List ℕ → ℕ → ℕ → ℕ → Type 0
+Ascends bytes base count i =
+    (word bytes (first-at base count (i - 1)) < word bytes (first-at base count i))
+    ⊎ ((word bytes (first-at base count (i - 1)) ≡ word bytes (first-at base count i)) × (word bytes (second-at base count (i - 1)) < word bytes (second-at base count i)))
+
+-- p is the byte position of the first number of a record but 0 that is not above the record before it
+abbrev pub Unordered : List ℕ → ℕ → ℕ → ℕ → Type 0
+Unordered bytes base count p = (i : ℕ) × (0 < i) × (i < count) × (p ≡ first-at base count i) × (¬ (Ascends bytes base count i))
+
+-- what a search of the indices below count came to: each was good, or the first that was not, told by its place
+abbrev pub Scanned : (ℕ → Type 0) → (ℕ → ℕ) → ℕ → Option ℕ → Type 0
+Scanned Good place count None = (i : ℕ) → i < count → Good i
+Scanned Good place count (Some p) = (i : ℕ) × (i < count) × (p ≡ place i) × (¬ (Good i)) × ((j : ℕ) → j < i → Good j)

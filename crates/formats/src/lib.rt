@@ -1,0 +1,7 @@
+//! Layer 1, reading: files of 16-bit numbers, their sections of records, and what a specification file states.
+
+pub mod faults;
+pub mod kinds;
+pub mod records;
+pub mod sections;
+pub mod tables;

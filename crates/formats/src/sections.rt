@@ -1,0 +1,116 @@
+ghost use mathlib.Core.Path.{_≡_};
+ghost use mathlib.Core.Logic.{_↔_};
+ghost use Prim.Native.Nat.{_+_, _*_, _<_, _≤_};
+ghost use denote.Ref.{now};
+ghost use lib.Dec.{T};
+ghost use lib.ListN.{length};
+ghost use Rattle.std.specs.Options.{Cases as BySome};
+ghost use Rattle.formats.specs.Words.{word};
+ghost use Rattle.formats.specs.Kinds.{Fits, Within};
+ghost use Rattle.formats.specs.Sections.{first-at, second-at, First-within, Second-within, Scanned};
+
+use crate::records::Bounds;
+use crate::records::Record;
+use crate::records::Span;
+use std::marker::PhantomData;
+
+/// The number at byte `at`.
+pub(crate) fn word_at(bytes: &[u8], at: usize) -> u16
+    requires { ⌜ at + 1 < length (now bytes) ⌝ }
+    ensures { λ r. ⌜ r ≡ word (now (bytes .entry)) at ⌝ }
+{
+    bytes[at] as u16 + 256 * bytes[at + 1] as u16
+}
+
+impl Span {
+    pub fn holds(self, x: u16) -> bool
+        ensures { λ r. ⌜ T r ↔ Within self x ⌝ }
+    {
+        self.low <= x as u32 && (x as u32) < self.end
+    }
+}
+
+/// A section of one kind of record, read where it lies: `count` records from byte `base`.
+#[derive(Drop)]
+pub struct Section<'a, R> {
+    bytes: &'a [u8],
+    base: usize,
+    count: u16,
+    kind: PhantomData<R>,
+    ghost inside: { base + 4 * count ≤ length (now bytes) },
+}
+
+impl<'a, R: Record> Section<'a, R> {
+    pub(crate) fn new(bytes: &'a [u8], base: usize, count: u16) -> Self
+        requires { ⌜ base + 4 * count ≤ length (now bytes) ⌝ }
+        ensures { λ r. ⌜ (now (r .bytes) ≡ now (bytes .entry)) × (r .base ≡ base) × (r .count ≡ count) ⌝ }
+    {
+        Section { bytes, base, count, kind: PhantomData }
+    }
+
+    /// Whether a section of this kind may have `size` records.
+    pub fn may_have(size: u16) -> bool
+        ensures { λ r. ⌜ T r ↔ Fits (R·Record .kind) size ⌝ }
+    {
+        let (floor, ceiling) = R::limits();
+        floor <= size as usize && size as usize <= ceiling
+    }
+
+    pub(crate) fn first(&self, i: u16) -> u16
+        requires { ⌜ i < now self .count ⌝ }
+        ensures { λ r. ⌜ r ≡ word (now (now (self .entry) .bytes)) (first-at (now (self .entry) .base) (now (self .entry) .count) i) ⌝ }
+    {
+        word_at(self.bytes, self.base + 2 * i as usize)
+    }
+
+    pub(crate) fn second(&self, i: u16) -> u16
+        requires { ⌜ i < now self .count ⌝ }
+        ensures { λ r. ⌜ r ≡ word (now (now (self .entry) .bytes)) (second-at (now (self .entry) .base) (now (self .entry) .count) i) ⌝ }
+    {
+        word_at(self.bytes, self.base + 2 * (self.count as usize + i as usize))
+    }
+
+    /// The record numbered `i`.
+    pub(crate) fn at(&self, i: u16) -> R
+        requires { ⌜ i < now self .count ⌝ }
+        ensures { λ r. ⌜ r ≡ R·Record .made (word (now (now (self .entry) .bytes)) (first-at (now (self .entry) .base) (now (self .entry) .count) i)) (word (now (now (self .entry) .bytes)) (second-at (now (self .entry) .base) (now (self .entry) .count) i)) ⌝ }
+    {
+        R::make(self.first(i), self.second(i))
+    }
+
+    fn first_fits(&self, bounds: Bounds, i: u16) -> bool
+        requires { ⌜ i < now self .count ⌝ }
+        ensures { λ r. ⌜ T r ↔ First-within (R·Record .kind) bounds (now (now (self .entry) .bytes)) (now (self .entry) .base) (now (self .entry) .count) i ⌝ }
+    {
+        R::first_span(bounds, i).holds(self.first(i))
+    }
+
+    fn first_outside(&self, bounds: Bounds) -> Option<usize>
+        ensures { λ r. ⌜ Scanned (First-within (R·Record .kind) bounds (now (now (self .entry) .bytes)) (now (self .entry) .base) (now (self .entry) .count)) (first-at (now (self .entry) .base) (now (self .entry) .count)) (now (self .entry) .count) r ⌝ }
+    {
+        for i in 0..self.count {
+            if !self.first_fits(bounds, i) {
+                return Some(self.base + 2 * i as usize);
+            }
+        }
+        None
+    }
+
+    fn second_fits(&self, bounds: Bounds, i: u16) -> bool
+        requires { ⌜ i < now self .count ⌝ }
+        ensures { λ r. ⌜ T r ↔ Second-within (R·Record .kind) bounds (now (now (self .entry) .bytes)) (now (self .entry) .base) (now (self .entry) .count) i ⌝ }
+    {
+        R::second_span(bounds, i).holds(self.second(i))
+    }
+
+    fn second_outside(&self, bounds: Bounds) -> Option<usize>
+        ensures { λ r. ⌜ Scanned (Second-within (R·Record .kind) bounds (now (now (self .entry) .bytes)) (now (self .entry) .base) (now (self .entry) .count)) (second-at (now (self .entry) .base) (now (self .entry) .count)) (now (self .entry) .count) r ⌝ }
+    {
+        for i in 0..self.count {
+            if !self.second_fits(bounds, i) {
+                return Some(self.base + 2 * (self.count as usize + i as usize));
+            }
+        }
+        None
+    }
+}
