@@ -17,9 +17,13 @@ first-at base count i = base + 2 * i
 abbrev pub second-at : ℕ → ℕ → ℕ → ℕ
 second-at base count i = base + 2 * (count + i)
 
--- the records that a section states
+-- record i of a section, `made` of its two numbers
+abbrev pub stated : {R : Type 0} → (ℕ → ℕ → R) → List ℕ → ℕ → ℕ → ℕ → R
+stated made bytes base count i = made (word bytes (first-at base count i)) (word bytes (second-at base count i))
+
+-- the records of a section
 abbrev pub section : {R : Type 0} → (ℕ → ℕ → R) → List ℕ → ℕ → ℕ → List R
-section made bytes base count = map (λ i. made (word bytes (first-at base count i)) (word bytes (second-at base count i))) (counting 0 count)
+section made bytes base count = map (stated made bytes base count) (counting 0 count)
 
 -- p is the lowest number of which P holds
 abbrev pub Lowest : (ℕ → Type 0) → ℕ → Type 0
@@ -47,6 +51,9 @@ abbrev pub Ascends : List ℕ → ℕ → ℕ → ℕ → Type 0
 Ascends bytes base count i =
     (word bytes (first-at base count (i - 1)) < word bytes (first-at base count i))
     ⊎ ((word bytes (first-at base count (i - 1)) ≡ word bytes (first-at base count i)) × (word bytes (second-at base count (i - 1)) < word bytes (second-at base count i)))
+
+abbrev pub Ascending : List ℕ → ℕ → ℕ → Type 0
+Ascending bytes base count = (i : ℕ) → 0 < i → i < count → Ascends bytes base count i
 
 -- p is the byte position of the first number of a record but 0 that is not above the record before it
 abbrev pub Unordered : List ℕ → ℕ → ℕ → ℕ → Type 0

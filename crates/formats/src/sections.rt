@@ -7,11 +7,13 @@ ghost use lib.ListN.{length};
 ghost use Rattle.std.specs.Options.{Cases as BySome};
 ghost use Rattle.formats.specs.Words.{word};
 ghost use Rattle.formats.specs.Kinds.{Fits, Within};
-ghost use Rattle.formats.specs.Sections.{first-at, second-at, First-within, Second-within, Scanned};
+ghost use Rattle.formats.specs.Sections.{first-at, second-at, First-within, Second-within, Scanned, Inside, Outside, Lowest, Ascends, Ascending, Unordered, stated, section};
+ghost use Rattle.formats.specs.Tables.{kept};
 
 use crate::records::Bounds;
 use crate::records::Record;
 use crate::records::Span;
+use crate::tables::Table;
 use std::marker::PhantomData;
 
 /// The number at byte `at`.
@@ -73,7 +75,7 @@ impl<'a, R: Record> Section<'a, R> {
     /// The record numbered `i`.
     pub(crate) fn at(&self, i: u16) -> R
         requires { ⌜ i < now self .count ⌝ }
-        ensures { λ r. ⌜ r ≡ R·Record .made (word (now (now (self .entry) .bytes)) (first-at (now (self .entry) .base) (now (self .entry) .count) i)) (word (now (now (self .entry) .bytes)) (second-at (now (self .entry) .base) (now (self .entry) .count) i)) ⌝ }
+        ensures { λ r. ⌜ r ≡ stated (R·Record .made) (now (now (self .entry) .bytes)) (now (self .entry) .base) (now (self .entry) .count) i ⌝ }
     {
         R::make(self.first(i), self.second(i))
     }
@@ -112,5 +114,49 @@ impl<'a, R: Record> Section<'a, R> {
             }
         }
         None
+    }
+
+    /// The lowest byte position of a number that lies outside its range.
+    pub fn outside(&self, bounds: Bounds) -> Option<usize>
+        ensures { λ r. ⌜ BySome r (Inside (R·Record .kind) bounds (now (now (self .entry) .bytes)) (now (self .entry) .base) (now (self .entry) .count)) (Lowest (Outside (R·Record .kind) bounds (now (now (self .entry) .bytes)) (now (self .entry) .base) (now (self .entry) .count))) ⌝ }
+    {
+        match self.first_outside(bounds) {
+            Some(at) => Some(at),
+            None => self.second_outside(bounds),
+        }
+    }
+
+    /// Whether record `i` is above the record before it.
+    fn ascends(&self, i: u16) -> bool
+        requires { ⌜ 0 < i ⌝ ∗ ⌜ i < now self .count ⌝ }
+        ensures { λ r. ⌜ T r ↔ Ascends (now (now (self .entry) .bytes)) (now (self .entry) .base) (now (self .entry) .count) i ⌝ }
+    {
+        let tail = self.first(i);
+        let before = self.first(i - 1);
+        before < tail || before == tail && self.second(i - 1) < self.second(i)
+    }
+
+    /// The byte position of the first record that is not above the record before it.
+    pub fn unordered(&self) -> Option<usize>
+        ensures { λ r. ⌜ BySome r (Ascending (now (now (self .entry) .bytes)) (now (self .entry) .base) (now (self .entry) .count)) (Lowest (Unordered (now (now (self .entry) .bytes)) (now (self .entry) .base) (now (self .entry) .count))) ⌝ }
+    {
+        for i in 1..self.count {
+            if !self.ascends(i) {
+                return Some(self.base + 2 * i as usize);
+            }
+        }
+        None
+    }
+
+    /// All records, copied to a table.
+    pub(crate) fn table<const N: usize>(&self) -> Table<R, N>
+        requires { ⌜ now self .count ≤ N ⌝ }
+        ensures { λ r. ⌜ kept r ≡ section (R·Record .made) (now (now (self .entry) .bytes)) (now (self .entry) .base) (now (self .entry) .count) ⌝ }
+    {
+        let mut table = Table::new(R::make(0, 0));
+        for i in 0..self.count {
+            let _ = table.push(self.at(i));
+        }
+        table
     }
 }

@@ -1,9 +1,9 @@
 ghost use mathlib.Core.Path.{_≡_};
 ghost use mathlib.Core.List.{[], _∷_, _++_};
 ghost use mathlib.Core.Bool.{cond};
-ghost use Prim.Native.Nat.{_≤_};
+ghost use Prim.Native.Nat.{_+_, _≤_};
 ghost use lib.Dec.{ltb};
-ghost use lib.ListN.{length, take};
+ghost use lib.ListN.{take};
 
 use std::alloc::AllocError;
 
@@ -27,7 +27,8 @@ pub impl<T: Copy, const N: usize> Clone for Table<T, N> as TableClone {
 impl<T: Copy, const N: usize> Table<T, N> {
     /// An empty table; `filler` stands in the places not taken.
     pub fn new(filler: T) -> Self
-        ensures { λ r. ⌜ take (r .len) (r .items) ≡ [] ⌝ }
+        ensures len { λ r. ⌜ r .len ≡ 0 ⌝ }
+        ensures items { λ r. ⌜ take (r .len) (r .items) ≡ [] ⌝ }
     {
         Table { items: [filler; N], len: 0 }
     }
@@ -41,6 +42,7 @@ impl<T: Copy, const N: usize> Table<T, N> {
     /// One item more, or false where the table is full.
     pub fn push(&mut self, x: T) -> bool
         ensures test { λ r. ⌜ r ≡ ltb (now (self .entry) .len) N ⌝ }
+        ensures len { λ r. ⌜ now (self .exit) .len ≡ cond r (now (self .entry) .len + 1) (now (self .entry) .len) ⌝ }
         ensures items { λ r. ⌜ take (now (self .exit) .len) (now (self .exit) .items) ≡ cond r (take (now (self .entry) .len) (now (self .entry) .items) ++ (x ∷ [])) (take (now (self .entry) .len) (now (self .entry) .items)) ⌝ }
     {
         let at = self.len;
