@@ -3,3 +3,6 @@ pub mod Faults
 pub mod Words
 pub mod Kinds
 pub mod Sections
+pub mod Specifications
+pub mod Of
+pub mod SpecFiles

@@ -37,14 +37,14 @@ abbrev pub Second-within : Kind → Bounds → List ℕ → ℕ → ℕ → ℕ 
 Second-within k w bytes base count i = Within (k .seconds w i) (word bytes (second-at base count i))
 
 -- p is the byte position of a number of the section that lies outside its range
-abbrev pub Outside : Kind → Bounds → List ℕ → ℕ → ℕ → ℕ → Type 0
-Outside k w bytes base count p =
-    ((i : ℕ) × (i < count) × (p ≡ first-at base count i) × (¬ (First-within k w bytes base count i)))
-    ⊎ ((i : ℕ) × (i < count) × (p ≡ second-at base count i) × (¬ (Second-within k w bytes base count i)))
+pub data Outside (k : Kind) (w : Bounds) (bytes : List ℕ) (base count p : ℕ) : Type 0 where
+  first-out : (i : ℕ) → i < count → p ≡ first-at base count i → (¬ (First-within k w bytes base count i)) → Outside k w bytes base count p
+  second-out : (i : ℕ) → i < count → p ≡ second-at base count i → (¬ (Second-within k w bytes base count i)) → Outside k w bytes base count p
 
 -- every number of the section lies in its range
-abbrev pub Inside : Kind → Bounds → List ℕ → ℕ → ℕ → Type 0
-Inside k w bytes base count = (i : ℕ) → i < count → First-within k w bytes base count i × Second-within k w bytes base count i
+pub record Inside (k : Kind) (w : Bounds) (bytes : List ℕ) (base count : ℕ) : Type 0 where
+  pub firsts-in : (i : ℕ) → i < count → First-within k w bytes base count i
+  pub seconds-in : (i : ℕ) → i < count → Second-within k w bytes base count i
 
 -- record i is above record i - 1: by its first number, or by its second where the first numbers are equal
 abbrev pub Ascends : List ℕ → ℕ → ℕ → ℕ → Type 0

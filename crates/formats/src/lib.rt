@@ -4,4 +4,7 @@ pub mod faults;
 pub mod kinds;
 pub mod records;
 pub mod sections;
+pub mod specification;
+pub mod reading;
+pub mod spec_file;
 pub mod tables;

@@ -1,0 +1,8 @@
+-- The specification of the subject that a value of the code stands for.
+use Rattle.model.specs.Specifications.{Spec}
+use Rattle.formats.specs.Specifications.{spec-from}
+use Rattle.formats.specs.Tables.{kept}
+use Rattle.formats.specs.declared.specification.Specification.{Specification}
+
+abbrev pub spec-of : Specification → Spec
+spec-of s = spec-from (kept (s .edges)) (kept (s .vertices)) (kept (s .nests)) (kept (s .ends))
