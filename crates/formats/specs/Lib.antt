@@ -6,3 +6,4 @@ pub mod Sections
 pub mod Specifications
 pub mod Of
 pub mod SpecFiles
+pub mod Blocks

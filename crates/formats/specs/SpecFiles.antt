@@ -7,6 +7,7 @@ use lib.ListN.{length}
 use Rattle.formats.specs.Faults.{Fault}
 use Rattle.formats.specs.Kinds.{Fits, spec-edge-kind, vertex-kind, nest-kind, ends-kind}
 use Rattle.formats.specs.Sections.{Inside, Outside, Lowest, Ascending, Unordered, section}
+use Rattle.formats.specs.Specifications.{made-edge, made-vertex, made-nest, made-ends}
 use Rattle.formats.specs.Tables.{kept}
 use Rattle.formats.specs.Words.{word}
 use Rattle.formats.specs.declared.records.Bounds.{Bounds}
@@ -87,7 +88,7 @@ pub record Accepted (bytes : List ℕ) : Type 0 where
 
 -- the specification is the one whose numbers stand in the file
 pub record States (bytes : List ℕ) (s : Specification) : Type 0 where
-  pub states-edges : kept (s .edges) ≡ section (λ a b. record { tail = a; head = b }) bytes (edges-from bytes) (m-of bytes)
-  pub states-vertices : kept (s .vertices) ≡ section (λ a b. record { home = a; tool = b }) bytes (vertices-from bytes) (n-of bytes)
-  pub states-nests : kept (s .nests) ≡ section (λ a b. record { parent = a; kind = b }) bytes (nests-from bytes) (b-of bytes)
-  pub states-ends : kept (s .ends) ≡ section (λ a b. record { source = a; sink = b }) bytes (ends-from bytes) (b-of bytes)
+  pub states-edges : kept (s .edges) ≡ section made-edge bytes (edges-from bytes) (m-of bytes)
+  pub states-vertices : kept (s .vertices) ≡ section made-vertex bytes (vertices-from bytes) (n-of bytes)
+  pub states-nests : kept (s .nests) ≡ section made-nest bytes (nests-from bytes) (b-of bytes)
+  pub states-ends : kept (s .ends) ≡ section made-ends bytes (ends-from bytes) (b-of bytes)

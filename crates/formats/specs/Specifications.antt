@@ -23,6 +23,19 @@ no-nest = record { parent = 0; kind = 0 }
 abbrev pub no-ends : Ends
 no-ends = record { source = 0; sink = 0 }
 
+-- a record of its two numbers
+abbrev pub made-edge : ℕ → ℕ → SpecEdge
+made-edge a b = record { tail = a; head = b }
+
+abbrev pub made-vertex : ℕ → ℕ → Vertex
+made-vertex a b = record { home = a; tool = b }
+
+abbrev pub made-nest : ℕ → ℕ → Nest
+made-nest a b = record { parent = a; kind = b }
+
+abbrev pub made-ends : ℕ → ℕ → Ends
+made-ends a b = record { source = a; sink = b }
+
 -- the edge from x to y stands in the list
 abbrev pub listed : List SpecEdge → ℕ → ℕ → Bool
 listed [] x y = false

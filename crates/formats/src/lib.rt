@@ -1,5 +1,6 @@
 //! Layer 1, reading: files of 16-bit numbers, their sections of records, and what a specification file states.
 
+pub mod contents;
 pub mod faults;
 pub mod kinds;
 pub mod records;

@@ -19,6 +19,7 @@ use crate::records::Bounds;
 use crate::sections::word_at;
 use crate::sections::Section;
 use crate::spec_file::SpecFile;
+use crate::specification::Specification;
 
 /// The three sizes of a specification file.
 #[derive(Clone, Copy)]
@@ -110,4 +111,32 @@ impl<'a> SpecFile<'a> {
         }
         self.ends().outside(bounds)
     }
+
+    /// The specification that the file states.
+    fn specification(&self) -> Specification
+        requires { ⌜ All-inside (now (now self .bytes)) ⌝ }
+        ensures { λ r. ⌜ States (now (now (self .entry) .bytes)) r ⌝ }
+    {
+        let edges = self.edges().table();
+        let vertices = self.vertices().table();
+        let nests = self.nests().table();
+        let ends = self.ends().table();
+        Specification { edges, vertices, nests, ends }
+    }
+}
+
+/// Reads a specification file into `place`, which a refusal leaves as it was.
+pub fn read(bytes: &[u8], place: &mut Specification) -> Result<(), ReadingFault>
+    ensures { λ r. ⌜ Cases r (λ _. Accepted (now (bytes .entry)) × States (now (bytes .entry)) (now (place .exit))) (λ f. Refused (now (bytes .entry)) (reading-fault f) × (now (place .exit) ≡ now (place .entry))) ⌝ }
+{
+    let sizes = sizes(bytes)?;
+    let file = SpecFile::new(bytes, sizes);
+    if let Some(at) = file.outside() {
+        return Err(ReadingFault::Range { at });
+    }
+    if let Some(at) = file.edges().unordered() {
+        return Err(ReadingFault::Order { at });
+    }
+    *place = file.specification();
+    Ok(())
 }
