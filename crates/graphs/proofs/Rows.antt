@@ -11,7 +11,7 @@ use Rattle.std.proofs.shelf.Bits.{mod-below, one-shl}
 use Rattle.std.proofs.shelf.Lists.{getD-replicate, length-replicate, getD-set-same, getD-set-other, getD-past, length-set}
 use Rattle.std.proofs.shelf.Tests.{cases-eq, cases-lt}
 use Rattle.graphs.specs.declared.row.Row.{Row}
-use Rattle.graphs.specs.Rows.{bit, Has, Holds}
+use Rattle.graphs.specs.Rows.{bit, Has, Holds, vertices}
 use Rattle.graphs.proofs.Bits.{bit-cases, bit-zero, or-bit, bit-pow, pow-bit, bit-test}
 
 -- a number is in a row or not
@@ -20,9 +20,6 @@ unfolding Has
 has-or words x =
     elim (bit-cases (getD words (x / 64) 0) (x % 64))
     [ inl z ↦ inr (λ h. omega arith) | inr e ↦ inl e ]
-
-pub holds-or : (row : Row) (x : ℕ) → Holds row x ⊎ (¬ (Holds row x))
-holds-or row x = has-or (row .words) x
 
 -- a word that is 0 has no bit
 has-no-bit : (words : List ℕ) (x : ℕ) → getD words (x / 64) 0 ≡ 0 → Has words x → ⊥
@@ -131,3 +128,16 @@ module _ (a b words : List ℕ) (i : ℕ) (j : Joining a b words i) where
       let law = or-bit (getD a (y / 64) 0) (getD b (y / 64) 0) (y % 64) in
       ( (λ h. law .0 (subst (λ (n : ℕ). bit n (y % 64) ≡ 1) (each l (y / 64)) h))
       , (λ s. subst (λ (n : ℕ). bit n (y % 64) ≡ 1) (sym (each l (y / 64))) (law .1 s)) )
+
+-- what a row holds, by its words
+
+pub holds-range : (row : Row) (x : ℕ) → Holds row x → x < vertices
+unfolding Holds
+holds-range row x h = h .0
+
+pub holds-or : (row : Row) (x : ℕ) → Holds row x ⊎ (¬ (Holds row x))
+unfolding Holds
+holds-or row x =
+    elim (cases-lt x vertices)
+    [ inl l ↦ elim (has-or (row .words) x) [ inl h ↦ inl (l, h) | inr n ↦ inr (λ h. n (h .1)) ]
+    | inr l ↦ inr (λ h. omega (arith, h .0)) ]

@@ -1,15 +1,15 @@
 -- Graphs: a row of successors for each vertex.
-use Prim.Native.Nat.{ℕ}
+use Prim.Native.Nat.{ℕ, _<_}
 use mathlib.Core.List.{List, []}
 use lib.ListN.{getD}
 use Rattle.graphs.specs.declared.row.Row.{Row}
 use Rattle.graphs.specs.declared.graph.Graph.{Graph}
-use Rattle.graphs.specs.Rows.{Holds}
+use Rattle.graphs.specs.Rows.{Holds, vertices}
 
 -- the row of no word, which holds nothing
 abbrev pub none : Row
 none = record { words = [] }
 
--- an edge leads from x to y: row x holds y; past the last row there is no edge
+-- an edge leads from x to y: x is a vertex, and its row holds y
 unfoldable pub Joins : Graph → ℕ → ℕ → Type 0
-Joins g x y = Holds (getD (g .rows) x none) y
+Joins g x y = (x < vertices) × Holds (getD (g .rows) x none) y

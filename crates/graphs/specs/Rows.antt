@@ -1,13 +1,17 @@
 -- Rows: sets of numbers as bits.
-use Prim.Native.Nat.{ℕ, _*_, _/_, _%_, _^_}
+use Prim.Native.Nat.{ℕ, _*_, _/_, _%_, _^_, _<_}
 use mathlib.Core.List.{List}
 use mathlib.Core.Path.{_≡_}
 use lib.ListN.{getD}
 use Rattle.graphs.specs.declared.row.Row.{Row}
 
--- how many numbers a row can hold: 64 for each of its words; src/row.rt has the same number of words
+-- how many words a row has: the number that src/row.rt calls WORDS
+abbrev pub width : ℕ
+width = 1
+
+-- how many numbers a row can hold: the vertices are the numbers below this one
 abbrev pub vertices : ℕ
-vertices = 64 * 1
+vertices = 64 * width
 
 -- bit k of n
 abbrev pub bit : ℕ → ℕ → ℕ
@@ -17,6 +21,6 @@ bit n k = n / 2 ^ k % 2
 unfoldable pub Has : List ℕ → ℕ → Type 0
 Has words x = bit (getD words (x / 64) 0) (x % 64) ≡ 1
 
--- x is in the row
-abbrev pub Holds : Row → ℕ → Type 0
-Holds row x = Has (row .words) x
+-- x is in the row: it is a vertex, and its bit is set
+unfoldable pub Holds : Row → ℕ → Type 0
+Holds row x = (x < vertices) × Has (row .words) x

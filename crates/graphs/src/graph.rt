@@ -4,7 +4,7 @@ ghost use mathlib.Core.Logic.{_↔_, _⊎_};
 ghost use mathlib.Core.Path.{_≡_};
 ghost use Rattle.model.specs.Paths.{Path⁺};
 ghost use Rattle.graphs.specs.Graphs.{Joins};
-ghost use Rattle.graphs.specs.Rows.{vertices};
+ghost use Rattle.graphs.specs.Rows.{Holds, vertices};
 
 use crate::row::Row;
 use crate::row::VERTICES;
@@ -28,9 +28,7 @@ impl Graph {
         ensures { λ _. ⌜ ((a b : ℕ) → Joins (now (self .exit)) a b ↔ (Joins (now (self .entry)) a b ⊎ ((a ≡ x) × (b ≡ y) × (x < vertices) × (y < vertices)))) ⌝ }
     {
         if x < VERTICES {
-            let mut row = self.rows[x];
-            row.insert(y);
-            self.rows[x] = row;
+            self.rows[x].insert(y);
         }
     }
 
@@ -46,18 +44,25 @@ impl Graph {
         ensures { λ _. ⌜ ((x y : ℕ) → Joins (now (self .exit)) x y ↔ Path⁺ (Joins (now (self .entry))) x y) ⌝ }
     {
         for k in 0..VERTICES {
-            through(self, k);
+            self.join_through(k);
+        }
+    }
+
+    // Adds an edge from x to y wherever one led from x to k, and one from k to y.
+    fn join_through(&mut self, k: usize)
+        requires { ⌜ k < vertices ⌝ }
+        ensures { λ _. ⌜ ((x y : ℕ) → Joins (now (self .exit)) x y ↔ (Joins (now (self .entry)) x y ⊎ (Joins (now (self .entry)) x k × Joins (now (self .entry)) k y))) ⌝ }
+    {
+        let via = self.rows[k];
+        for row in self.rows.iter_mut() {
+            *row = widened(*row, via, k);
         }
     }
 }
 
-fn through(g: &mut Graph, k: usize)
-    requires { ⌜ k < vertices ⌝ }
+// The row, joined with `via` where it holds k.
+fn widened(row: Row, via: Row, k: usize) -> Row
+    ensures { λ r. ⌜ ((y : ℕ) → Holds r y ↔ (Holds row y ⊎ (Holds row k × Holds via y))) ⌝ }
 {
-    let via = g.rows[k];
-    for row in g.rows.iter_mut() {
-        if row.has(k) {
-            *row = row.joined(via);
-        }
-    }
+    if row.has(k) { row.joined(via) } else { row }
 }
