@@ -36,10 +36,11 @@ bit-or a b k = ap (λ (n : ℕ). n % 2) (or-shr a b k) ∙ or-mod (a / 2 ^ k) (b
 
 -- a bit of a bitwise or is set where it is set in one of the two
 pub or-bit : (a b k : ℕ) → (bit (bitOr a b) k ≡ 1) ↔ ((bit a k ≡ 1) ⊎ (bit b k ≡ 1))
-or-bit a b k =
-    ( (λ h. or-one (bit a k) (bit b k) (bit-cases a k) (sym (bit-or a b k) ∙ h))
-    , (λ s. bit-or a b k ∙ elim s as (λ _. bitOr (bit a k) (bit b k) ≡ 1)
-          [ inl h ↦ one-or (bit a k) (bit b k) (bit-cases b k) h | inr h ↦ or-two (bit a k) (bit b k) (bit-cases a k) h ]) )
+or-bit a b k = (
+  (λ h. or-one (bit a k) (bit b k) (bit-cases a k) (sym (bit-or a b k) ∙ h)),
+  (λ s. bit-or a b k ∙ elim s as (λ _. bitOr (bit a k) (bit b k) ≡ 1)
+      [ inl h ↦ one-or (bit a k) (bit b k) (bit-cases b k) h | inr h ↦ or-two (bit a k) (bit b k) (bit-cases a k) h ]),
+)
 
 pow-above : (j k : ℕ) → bit (2 ^ (j + 1 + k)) k ≡ 0
 pow-above j k =
@@ -55,19 +56,22 @@ bit-pow i = ap (λ (n : ℕ). n / 2 ^ i % 2) (sym (one-mul (2 ^ i))) ∙ ap (λ 
 
 pub pow-bit : (i k : ℕ) → bit (2 ^ i) k ≡ 1 → k ≡ i
 pow-bit i k h =
-    elim (cases-order i k)
-    [ inl e ↦ sym e
-    | inr s ↦
-        elim s
-        [ inl l ↦ absurd (omega (arith, pow-under i k l))
-        | inr l ↦
-            let e : i - k - 1 + 1 + k ≡ i = omega arith in
-            let z : bit (2 ^ i) k ≡ 0 = subst (λ (n : ℕ). bit (2 ^ n) k ≡ 0) e (pow-above (i - k - 1) k) in
-            absurd (omega arith) ] ]
+    elim (cases-order i k) [
+      | inl e ↦ sym e
+      | inr s ↦
+          elim s [
+            | inl l ↦ absurd (omega (arith, pow-under i k l))
+            | inr l ↦
+                let e : i - k - 1 + 1 + k ≡ i = omega arith in
+                let z : bit (2 ^ i) k ≡ 0 = subst (λ (n : ℕ). bit (2 ^ n) k ≡ 0) e (pow-above (i - k - 1) k) in
+                absurd (omega arith)
+          ]
+    ]
 
 -- the test of a bit in code
 pub bit-test : (a k : ℕ) → T (eqb (bitAnd (a / 2 ^ k) 1) 1) ↔ (bit a k ≡ 1)
 bit-test a k =
-    let low : bitAnd (a / 2 ^ k) 1 ≡ bit a k = and-mask (a / 2 ^ k) 1 in
-    ( (λ t. sym low ∙ eqb→eq (bitAnd (a / 2 ^ k) 1) 1 t)
-    , (λ h. subst (λ (n : ℕ). T (eqb n 1)) (sym (low ∙ h)) tt) )
+    let low : bitAnd (a / 2 ^ k) 1 ≡ bit a k = and-mask (a / 2 ^ k) 1 in (
+      (λ t. sym low ∙ eqb→eq (bitAnd (a / 2 ^ k) 1) 1 t),
+      (λ h. subst (λ (n : ℕ). T (eqb n 1)) (sym (low ∙ h)) tt),
+    )

@@ -31,30 +31,36 @@ module _ (R Q Q′ : ℕ → ℕ → Type 0) (k : ℕ) (c : Closing R Q k) (law 
   old : (m : ℕ) → m < k → (x y : ℕ) → Q′ x m → Q′ m y → Q′ x y
   old m h x y p q =
       law x y .1
-      (elim (law x m .0 p)
-      [ inl a ↦
-          elim (law m y .0 q)
-          [ inl b ↦ inl (c .joins m h x y a b)
-          | inr b ↦ inr (c .joins m h x k a (b .0), b .1) ]
-      | inr a ↦
-          elim (law m y .0 q)
-          [ inl b ↦ inr (a .0, c .joins m h k y (a .1) b)
-          | inr b ↦ inr (a .0, b .1) ] ])
+      (elim (law x m .0 p) [
+        | inl a ↦
+            elim (law m y .0 q) [
+              | inl b ↦ inl (c .joins m h x y a b)
+              | inr b ↦ inr (c .joins m h x k a (b .0), b .1)
+            ]
+        | inr a ↦
+            elim (law m y .0 q) [
+              | inl b ↦ inr (a .0, c .joins m h k y (a .1) b)
+              | inr b ↦ inr (a .0, b .1)
+            ]
+      ])
 
   pub closing-more : Closing R Q′ (k + 1)
   closing-more =
-      record
-      { sound = λ x y e.
-          elim (law x y .0 e)
-          [ inl p ↦ c .sound x y p
-          | inr p ↦ path⁺-join {R = R} (c .sound x k (p .0)) (c .sound k y (p .1)) ]
-      ; holds = λ x y e. law x y .1 (inl (c .holds x y e))
-      ; joins = λ m h x y p q.
-          elim (cases-lt m k)
-          [ inl s ↦ old m s x y p q
-          | inr s ↦
-              let e : m ≡ k = omega (arith, h, s) in
-              law x y .1 (inr (into x (subst (λ (v : ℕ). Q′ x v) e p), outof y (subst (λ (v : ℕ). Q′ v y) e q))) ] }
+      record {
+        sound = λ x y e.
+            elim (law x y .0 e) [
+              | inl p ↦ c .sound x y p
+              | inr p ↦ path⁺-join {R = R} (c .sound x k (p .0)) (c .sound k y (p .1))
+            ];
+        holds = λ x y e. law x y .1 (inl (c .holds x y e));
+        joins = λ m h x y p q.
+            elim (cases-lt m k) [
+              | inl s ↦ old m s x y p q
+              | inr s ↦
+                  let e : m ≡ k = omega (arith, h, s) in
+                  law x y .1 (inr (into x (subst (λ (v : ℕ). Q′ x v) e p), outof y (subst (λ (v : ℕ). Q′ v y) e q)))
+            ];
+      }
 
 -- where each edge of R starts below k, Q is the closure of R
 module _ (R Q : ℕ → ℕ → Type 0) (k : ℕ) (range : (x y : ℕ) → R x y → x < k) (c : Closing R Q k) where

@@ -40,9 +40,10 @@ has-range words x h =
 -- words that are all 0
 pub has-none : (n x : ℕ) → Has (replicate n 0) x → ⊥
 has-none n x =
-    elim (cases-lt (x / 64) n)
-    [ inl l ↦ has-no-bit (replicate n 0) x (getD-replicate n (x / 64) 0 0 l)
-    | inr l ↦ has-past (replicate n 0) x (simp length-replicate l) ]
+    elim (cases-lt (x / 64) n) [
+      | inl l ↦ has-no-bit (replicate n 0) x (getD-replicate n (x / 64) 0 0 l)
+      | inr l ↦ has-past (replicate n 0) x (simp length-replicate l)
+    ]
 
 -- the test of a number in code
 pub has-test : (words : List ℕ) (x : ℕ) → T (eqb (bitAnd (getD words (x / 64) 0 / 2 ^ (x % 64)) 1) 1) ↔ Has words x
@@ -70,18 +71,20 @@ module _ (words : List ℕ) (x : ℕ) (inside : x / 64 < length words) where
   pub marked-only : (y : ℕ) → Has (marked words x) y → Has words y ⊎ (y ≡ x)
   unfolding Has
   marked-only y h =
-      elim (cases-eq (y / 64) (x / 64))
-      [ inl e ↦
-          elim (or-bit (getD words (y / 64) 0) (2 ^ (x % 64)) (y % 64) .0 (subst (λ (n : ℕ). bit n (y % 64) ≡ 1) (same-word y e) h))
-          [ inl p ↦ inl p | inr q ↦ inr (omega (arith, pow-bit (x % 64) (y % 64) q)) ]
-      | inr n ↦ inl (subst (λ (n : ℕ). bit n (y % 64) ≡ 1) (other-word y n) h) ]
+      elim (cases-eq (y / 64) (x / 64)) [
+        | inl e ↦
+            elim (or-bit (getD words (y / 64) 0) (2 ^ (x % 64)) (y % 64) .0 (subst (λ (n : ℕ). bit n (y % 64) ≡ 1) (same-word y e) h))
+            [ inl p ↦ inl p | inr q ↦ inr (omega (arith, pow-bit (x % 64) (y % 64) q)) ]
+        | inr n ↦ inl (subst (λ (n : ℕ). bit n (y % 64) ≡ 1) (other-word y n) h)
+      ]
 
   pub marked-keeps : (y : ℕ) → Has words y → Has (marked words x) y
   unfolding Has
   marked-keeps y h =
-      elim (cases-eq (y / 64) (x / 64))
-      [ inl e ↦ subst (λ (n : ℕ). bit n (y % 64) ≡ 1) (sym (same-word y e)) (or-bit (getD words (y / 64) 0) (2 ^ (x % 64)) (y % 64) .1 (inl h))
-      | inr n ↦ subst (λ (n : ℕ). bit n (y % 64) ≡ 1) (sym (other-word y n)) h ]
+      elim (cases-eq (y / 64) (x / 64)) [
+        | inl e ↦ subst (λ (n : ℕ). bit n (y % 64) ≡ 1) (sym (same-word y e)) (or-bit (getD words (y / 64) 0) (2 ^ (x % 64)) (y % 64) .1 (inl h))
+        | inr n ↦ subst (λ (n : ℕ). bit n (y % 64) ≡ 1) (sym (other-word y n)) h
+      ]
 
   pub marked-has : Has (marked words x) x
   unfolding Has
@@ -103,31 +106,35 @@ module _ (a b words : List ℕ) (i : ℕ) (j : Joining a b words i) where
   joining-more l =
       let v : ℕ = bitOr (getD words i 0) (getD b i 0) in
       let inside : i < length words = omega arith in
-      record
-      { long = length-set words i v ∙ j .long
-      ; done = λ k h.
-          elim (cases-eq k i)
-          [ inl e ↦
-              subst (λ (m : ℕ). getD (set words i v) m 0 ≡ bitOr (getD a m 0) (getD b m 0)) (sym e)
-              (getD-set-same words i v 0 inside ∙ ap (λ (n : ℕ). bitOr n (getD b i 0)) (j .rest i (omega arith)))
-          | inr n ↦ getD-set-other words i k v 0 n ∙ j .done k (omega (arith, n)) ]
-      ; rest = λ k h. let n : k ≢ i = omega arith in getD-set-other words i k v 0 n ∙ j .rest k (omega arith) }
+      record {
+        long = length-set words i v ∙ j .long;
+        done = λ k h.
+            elim (cases-eq k i) [
+              | inl e ↦
+                  subst (λ (m : ℕ). getD (set words i v) m 0 ≡ bitOr (getD a m 0) (getD b m 0)) (sym e)
+                  (getD-set-same words i v 0 inside ∙ ap (λ (n : ℕ). bitOr n (getD b i 0)) (j .rest i (omega arith)))
+              | inr n ↦ getD-set-other words i k v 0 n ∙ j .done k (omega (arith, n))
+            ];
+        rest = λ k h. let n : k ≢ i = omega arith in getD-set-other words i k v 0 n ∙ j .rest k (omega arith);
+      }
 
   each : length b ≤ i → (k : ℕ) → getD words k 0 ≡ bitOr (getD a k 0) (getD b k 0)
   each l k =
-      elim (cases-lt k i)
-      [ inl h ↦ j .done k h
-      | inr h ↦
-          let z : getD b k 0 ≡ 0 = getD-past b k 0 (omega arith) in
-          j .rest k h ∙ sym (ap (λ (n : ℕ). bitOr (getD a k 0) n) z ∙ or-zero-r (getD a k 0)) ]
+      elim (cases-lt k i) [
+        | inl h ↦ j .done k h
+        | inr h ↦
+            let z : getD b k 0 ≡ 0 = getD-past b k 0 (omega arith) in
+            j .rest k h ∙ sym (ap (λ (n : ℕ). bitOr (getD a k 0) n) z ∙ or-zero-r (getD a k 0))
+      ]
 
   -- once all words of b are joined, the words are the union
   pub joining-all : length b ≤ i → (y : ℕ) → Has words y ↔ (Has a y ⊎ Has b y)
   unfolding Has
   joining-all l y =
-      let law = or-bit (getD a (y / 64) 0) (getD b (y / 64) 0) (y % 64) in
-      ( (λ h. law .0 (subst (λ (n : ℕ). bit n (y % 64) ≡ 1) (each l (y / 64)) h))
-      , (λ s. subst (λ (n : ℕ). bit n (y % 64) ≡ 1) (sym (each l (y / 64))) (law .1 s)) )
+      let law = or-bit (getD a (y / 64) 0) (getD b (y / 64) 0) (y % 64) in (
+        (λ h. law .0 (subst (λ (n : ℕ). bit n (y % 64) ≡ 1) (each l (y / 64)) h)),
+        (λ s. subst (λ (n : ℕ). bit n (y % 64) ≡ 1) (sym (each l (y / 64))) (law .1 s)),
+      )
 
 -- what a row holds, by its words
 
@@ -138,6 +145,7 @@ holds-range row x h = h .0
 pub holds-or : (row : Row) (x : ℕ) → Holds row x ⊎ (¬ (Holds row x))
 unfolding Holds
 holds-or row x =
-    elim (cases-lt x vertices)
-    [ inl l ↦ elim (has-or (row .words) x) [ inl h ↦ inl (l, h) | inr n ↦ inr (λ h. n (h .1)) ]
-    | inr l ↦ inr (λ h. omega (arith, h .0)) ]
+    elim (cases-lt x vertices) [
+      | inl l ↦ elim (has-or (row .words) x) [ inl h ↦ inl (l, h) | inr n ↦ inr (λ h. n (h .1)) ]
+      | inr l ↦ inr (λ h. omega (arith, h .0))
+    ]

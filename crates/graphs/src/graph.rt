@@ -5,7 +5,6 @@ ghost use mathlib.Core.Path.{_≡_};
 ghost use Rattle.model.specs.Paths.{Path⁺};
 ghost use Rattle.graphs.specs.Graphs.{Joins};
 ghost use Rattle.graphs.specs.Rows.{Holds, vertices};
-
 use crate::row::Row;
 use crate::row::VERTICES;
 
@@ -20,7 +19,9 @@ impl Graph {
     pub fn new() -> Self
         ensures { λ r. ⌜ ((x y : ℕ) → Joins r x y → ⊥) ⌝ }
     {
-        Graph { rows: [Row::empty(); VERTICES] }
+        Graph {
+            rows: [Row::empty(); VERTICES],
+        }
     }
 
     // Adds the edge from x to y; where one of them is no vertex, nothing changes.
@@ -65,4 +66,37 @@ fn widened(row: Row, via: Row, k: usize) -> Row
     ensures { λ r. ⌜ ((y : ℕ) → Holds r y ↔ (Holds row y ⊎ (Holds row k × Holds via y))) ⌝ }
 {
     if row.has(k) { row.joined(via) } else { row }
+}
+
+#[cfg(test)]
+mod tests {
+    use super::*;
+    use std::test::*;
+
+    #[test]
+    fn chain_closes() -> Result<(), Fail> {
+        let mut g = Graph::new();
+        for x in 0..63 {
+            g.add(x, x + 1);
+        }
+        check(!g.has(0, 63))?;
+        g.close();
+        check(g.has(0, 63))?;
+        check(g.has(62, 63))?;
+        check(!g.has(63, 0))?;
+        check(!g.has(5, 5))
+    }
+
+    #[test]
+    fn cycle_closes() -> Result<(), Fail> {
+        let mut g = Graph::new();
+        g.add(1, 9);
+        g.add(9, 4);
+        g.add(4, 1);
+        g.add(4, VERTICES);
+        g.close();
+        check(g.has(1, 1))?;
+        check(g.has(9, 1))?;
+        check(!g.has(4, VERTICES))
+    }
 }

@@ -13,6 +13,7 @@ loop-i-again c = joining-more (c .args .self .words) (c .args .other .words) (c 
 pub returns : need.returns
 unfolding Holds
 returns c y =
-    let law = joining-all (c .args .self .words) (c .args .other .words) (c .loop-i .words) (c .loop-i .i) (c .loop-i .inv) (omega arith) y in
-    ( (λ h. elim (law .0 (h .1)) [ inl p ↦ inl (h .0, p) | inr p ↦ inr (h .0, p) ])
-    , (λ s. elim s [ inl p ↦ (p .0, law .1 (inl (p .1))) | inr p ↦ (p .0, law .1 (inr (p .1))) ]) )
+    let law = joining-all (c .args .self .words) (c .args .other .words) (c .loop-i .words) (c .loop-i .i) (c .loop-i .inv) (omega arith) y in (
+      (λ h. elim (law .0 (h .1)) [ inl p ↦ inl (h .0, p) | inr p ↦ inr (h .0, p) ]),
+      (λ s. elim s [ inl p ↦ (p .0, law .1 (inl (p .1))) | inr p ↦ (p .0, law .1 (inr (p .1))) ]),
+    )
