@@ -19,9 +19,8 @@ impl Graph {
     pub fn new() -> Self
         ensures { λ r. ⌜ ((x y : ℕ) → Joins r x y → ⊥) ⌝ }
     {
-        Graph {
-            rows: [Row::empty(); VERTICES],
-        }
+        let rows = [Row::empty(); VERTICES];
+        Graph { rows }
     }
 
     // Adds the edge from x to y; where one of them is no vertex, nothing changes.

@@ -3,4 +3,4 @@ use Rattle.graphs.proofs.Graphs.{joins-none}
 use Rattle.graphs.proofs.graph.Graph.new.Needs as need
 
 pub returns : need.returns
-returns c = joins-none vertices (c .empty .result) (c .empty .ensures)
+returns c = joins-none vertices (c .empty-rows .result) (c .empty-rows .ensures)
