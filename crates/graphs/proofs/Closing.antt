@@ -5,10 +5,13 @@ use Prim.Native.Nat.{ℕ, _+_, _<_}
 use native.Mathlib.Omega.{arith}
 use Rattle.std.proofs.shelf.Tests.{cases-lt}
 use Rattle.model.specs.Paths.{Path*, Path⁺, here, step}
-use Rattle.model.proofs.Paths.{path-join}
+use Rattle.model.proofs.Paths.{path-join, path-map}
 
 pub path⁺-join : {R : ℕ → ℕ → Type 0} {x y z : ℕ} → Path⁺ R x y → Path⁺ R y z → Path⁺ R x z
 path⁺-join p q = (q .0, path-join (step (p .1) (p .2)) (q .1), q .2)
+
+pub path⁺-map : {R Q : ℕ → ℕ → Type 0} {x y : ℕ} → ((a b : ℕ) → R a b → Q a b) → Path⁺ R x y → Path⁺ Q x y
+path⁺-map {y = y} f p = (p .0, path-map f (p .1), f (p .0) y (p .2))
 
 -- R is the relation at the start, and Q what it has become: Q has just edges that R leads along, has those of R, and is joined through each vertex below k
 pub record Closing (R Q : ℕ → ℕ → Type 0) (k : ℕ) : Type 0 where

@@ -1,6 +1,6 @@
 -- Graphs: a row of successors for each vertex.
 use Prim.Native.Nat.{ℕ, _<_}
-use mathlib.Core.List.{List, []}
+use mathlib.Core.List.{[]}
 use lib.ListN.{getD}
 use Rattle.graphs.specs.declared.row.Row.{Row}
 use Rattle.graphs.specs.declared.graph.Graph.{Graph}

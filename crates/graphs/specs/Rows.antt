@@ -21,6 +21,6 @@ bit n k = n / 2 ^ k % 2
 unfoldable pub Has : List ℕ → ℕ → Type 0
 Has words x = bit (getD words (x / 64) 0) (x % 64) ≡ 1
 
--- x is in the row: it is a vertex, and its bit is set
+-- x is in the row: it is a vertex, and its bit is set; a row of the code has no bit past the last vertex, and the first part says so of any
 unfoldable pub Holds : Row → ℕ → Type 0
 Holds row x = (x < vertices) × Has (row .words) x
