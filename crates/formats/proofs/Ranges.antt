@@ -28,19 +28,23 @@ module _ {k : Kind} {w : Bounds} {bytes : List ℕ} {base count p : ℕ} where
 -- from the searches of the two arrays
 module _ (k : Kind) (w : Bounds) (bytes : List ℕ) (base count p : ℕ) where
   pub lowest-first : Scanned (First-within k w bytes base count) (first-at base count) count (Some p) → Lowest (Outside k w bytes base count) p
-  lowest-first s =
-      (first-out (s .0) (s .1) (s .2) (s .3),
-       λ q l. elim [
-         | first-out j h e f ↦ f (s .4 j (omega (arith, s .2)))
-         | second-out j h e f ↦ absurd (omega (arith, s .1, s .2)) ])
+  lowest-first s = (
+    first-out (s .0) (s .1) (s .2) (s .3),
+    λ q l. elim [
+      | first-out j h e f ↦ f (s .4 j (omega (arith, s .2)))
+      | second-out j h e f ↦ absurd (omega (arith, s .1, s .2))
+    ],
+  )
 
   pub lowest-second : ((i : ℕ) → i < count → First-within k w bytes base count i)
       → Scanned (Second-within k w bytes base count) (second-at base count) count (Some p) → Lowest (Outside k w bytes base count) p
-  lowest-second a s =
-      (second-out (s .0) (s .1) (s .2) (s .3),
-       λ q l. elim [
-         | first-out j h e f ↦ f (a j h)
-         | second-out j h e f ↦ f (s .4 j (omega (arith, s .2))) ])
+  lowest-second a s = (
+    second-out (s .0) (s .1) (s .2) (s .3),
+    λ q l. elim [
+      | first-out j h e f ↦ f (a j h)
+      | second-out j h e f ↦ f (s .4 j (omega (arith, s .2)))
+    ],
+  )
 
 pub section-done : (k : Kind) (w : Bounds) (bytes : List ℕ) (base count : ℕ) (r : Option ℕ) → ((i : ℕ) → i < count → First-within k w bytes base count i)
     → Scanned (Second-within k w bytes base count) (second-at base count) count r → Cases r (Inside k w bytes base count) (Lowest (Outside k w bytes base count))
@@ -87,32 +91,48 @@ module _ (bytes : List ℕ) where
   Ends-in = Inside ends-kind (spec-bounds bytes) bytes (ends-from bytes) (b-of bytes)
 
   pub lowest-edges : {p : ℕ} → Lowest Edges-out p → Lowest (Number-outside bytes) p
-  lowest-edges l = (of-edges (l .0), λ q h. elim [
-    | of-edges o ↦ l .1 q h o
-    | of-vertices o ↦ omega (arith, outside-high (l .0), outside-low o)
-    | of-nests o ↦ omega (arith, outside-high (l .0), outside-low o)
-    | of-ends o ↦ omega (arith, outside-high (l .0), outside-low o) ])
+  lowest-edges l = (
+    of-edges (l .0),
+    λ q h. elim [
+      | of-edges o ↦ l .1 q h o
+      | of-vertices o ↦ omega (arith, outside-high (l .0), outside-low o)
+      | of-nests o ↦ omega (arith, outside-high (l .0), outside-low o)
+      | of-ends o ↦ omega (arith, outside-high (l .0), outside-low o)
+    ],
+  )
 
   pub lowest-vertices : {p : ℕ} → Edges-in → Lowest Vertices-out p → Lowest (Number-outside bytes) p
-  lowest-vertices a l = (of-vertices (l .0), λ q h. elim [
-    | of-edges o ↦ none-outside a o
-    | of-vertices o ↦ l .1 q h o
-    | of-nests o ↦ omega (arith, outside-high (l .0), outside-low o)
-    | of-ends o ↦ omega (arith, outside-high (l .0), outside-low o) ])
+  lowest-vertices a l = (
+    of-vertices (l .0),
+    λ q h. elim [
+      | of-edges o ↦ none-outside a o
+      | of-vertices o ↦ l .1 q h o
+      | of-nests o ↦ omega (arith, outside-high (l .0), outside-low o)
+      | of-ends o ↦ omega (arith, outside-high (l .0), outside-low o)
+    ],
+  )
 
   pub lowest-nests : {p : ℕ} → Edges-in → Vertices-in → Lowest Nests-out p → Lowest (Number-outside bytes) p
-  lowest-nests a b l = (of-nests (l .0), λ q h. elim [
-    | of-edges o ↦ none-outside a o
-    | of-vertices o ↦ none-outside b o
-    | of-nests o ↦ l .1 q h o
-    | of-ends o ↦ omega (arith, outside-high (l .0), outside-low o) ])
+  lowest-nests a b l = (
+    of-nests (l .0),
+    λ q h. elim [
+      | of-edges o ↦ none-outside a o
+      | of-vertices o ↦ none-outside b o
+      | of-nests o ↦ l .1 q h o
+      | of-ends o ↦ omega (arith, outside-high (l .0), outside-low o)
+    ],
+  )
 
   pub lowest-ends : {p : ℕ} → Edges-in → Vertices-in → Nests-in → Lowest Ends-out p → Lowest (Number-outside bytes) p
-  lowest-ends a b c l = (of-ends (l .0), λ q h. elim [
-    | of-edges o ↦ none-outside a o
-    | of-vertices o ↦ none-outside b o
-    | of-nests o ↦ none-outside c o
-    | of-ends o ↦ l .1 q h o ])
+  lowest-ends a b c l = (
+    of-ends (l .0),
+    λ q h. elim [
+      | of-edges o ↦ none-outside a o
+      | of-vertices o ↦ none-outside b o
+      | of-nests o ↦ none-outside c o
+      | of-ends o ↦ l .1 q h o
+    ],
+  )
 
   pub file-done : (r : Option ℕ) → Edges-in → Vertices-in → Nests-in → Cases r Ends-in (Lowest Ends-out) → Cases r (All-inside bytes) (Lowest (Number-outside bytes))
   file-done None a b c d = record { edges-inside = a; vertices-inside = b; nests-inside = c; ends-inside = d }

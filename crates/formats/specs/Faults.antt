@@ -1,12 +1,7 @@
--- What a fault is to the caller: layer, number and place.
-use Prim.Native.Nat.{ℕ}
+-- Layer, number and place of each fault.
+use Rattle.formats.specs.declared.faults.Fault.{Fault}
 use Rattle.formats.specs.declared.faults.ReadingFault.{ReadingFault}
 use Rattle.formats.specs.declared.faults.ReadingFault.the-variants.{Short, Size, Length, Range, Order}
-
-pub record Fault : Type 0 where
-  pub layer : ℕ
-  pub number : ℕ
-  pub place : ℕ
 
 -- the faults of layer 1, reading
 abbrev pub reading-fault : ReadingFault → Fault

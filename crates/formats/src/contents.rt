@@ -5,7 +5,6 @@ ghost use Rattle.std.specs.Options.{Cases as BySome};
 ghost use Rattle.formats.specs.Blocks.{kind-number};
 ghost use Rattle.formats.specs.Specifications.{no-vertex, no-nest, no-ends};
 ghost use Rattle.formats.specs.Tables.{kept};
-
 use crate::kinds::Ends;
 use crate::kinds::Nest;
 use crate::kinds::SpecEdge;
@@ -47,7 +46,12 @@ impl Specification {
         let _ = vertices.push(Vertex { home: 0, tool: 0 });
         let _ = nests.push(Nest { parent: 0, kind: 0 });
         let _ = ends.push(Ends { source: 0, sink: 0 });
-        Specification { edges, vertices, nests, ends }
+        Specification {
+            edges,
+            vertices,
+            nests,
+            ends,
+        }
     }
 
     pub fn edges(&self) -> &[SpecEdge]

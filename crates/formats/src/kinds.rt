@@ -1,5 +1,4 @@
 ghost use Rattle.formats.specs.Kinds.{copy-kind, ends-kind, nest-kind, run-edge-kind, spec-edge-kind, step-kind, vertex-kind};
-
 use crate::records::Bounds;
 use crate::records::Record;
 use crate::records::Span;
@@ -13,11 +12,15 @@ pub struct SpecEdge {
 
 pub impl Record for SpecEdge as SpecEdgeRecord {
     const CEILING: usize = 512;
+
     const FLOOR: usize = 0;
 
     ghost kind = { spec-edge-kind };
+
     ghost made = { λ a b. record { tail = a; head = b } };
+
     ghost first = { λ e. e .tail };
+
     ghost second = { λ e. e .head };
 
     fn limits() -> (usize, usize) {
@@ -50,11 +53,15 @@ pub struct Vertex {
 
 pub impl Record for Vertex as VertexRecord {
     const CEILING: usize = 64;
+
     const FLOOR: usize = 1;
 
     ghost kind = { vertex-kind };
+
     ghost made = { λ a b. record { home = a; tool = b } };
+
     ghost first = { λ e. e .home };
+
     ghost second = { λ e. e .tool };
 
     fn limits() -> (usize, usize) {
@@ -87,11 +94,15 @@ pub struct Nest {
 
 pub impl Record for Nest as NestRecord {
     const CEILING: usize = 32;
+
     const FLOOR: usize = 1;
 
     ghost kind = { nest-kind };
+
     ghost made = { λ a b. record { parent = a; kind = b } };
+
     ghost first = { λ e. e .parent };
+
     ghost second = { λ e. e .kind };
 
     fn limits() -> (usize, usize) {
@@ -124,11 +135,15 @@ pub struct Ends {
 
 pub impl Record for Ends as EndsRecord {
     const CEILING: usize = 32;
+
     const FLOOR: usize = 1;
 
     ghost kind = { ends-kind };
+
     ghost made = { λ a b. record { source = a; sink = b } };
+
     ghost first = { λ e. e .source };
+
     ghost second = { λ e. e .sink };
 
     fn limits() -> (usize, usize) {
@@ -161,11 +176,15 @@ pub struct RunCopy {
 
 pub impl Record for RunCopy as RunCopyRecord {
     const CEILING: usize = 512;
+
     const FLOOR: usize = 1;
 
     ghost kind = { copy-kind };
+
     ghost made = { λ a b. record { parent = a; block = b } };
+
     ghost first = { λ e. e .parent };
+
     ghost second = { λ e. e .block };
 
     fn limits() -> (usize, usize) {
@@ -198,11 +217,15 @@ pub struct Step {
 
 pub impl Record for Step as StepRecord {
     const CEILING: usize = 2048;
+
     const FLOOR: usize = 1;
 
     ghost kind = { step-kind };
+
     ghost made = { λ a b. record { context = a; origin = b } };
+
     ghost first = { λ e. e .context };
+
     ghost second = { λ e. e .origin };
 
     fn limits() -> (usize, usize) {
@@ -235,11 +258,15 @@ pub struct RunEdge {
 
 pub impl Record for RunEdge as RunEdgeRecord {
     const CEILING: usize = 8192;
+
     const FLOOR: usize = 0;
 
     ghost kind = { run-edge-kind };
+
     ghost made = { λ a b. record { tail = a; head = b } };
+
     ghost first = { λ e. e .tail };
+
     ghost second = { λ e. e .head };
 
     fn limits() -> (usize, usize) {

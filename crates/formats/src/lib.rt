@@ -3,9 +3,9 @@
 pub mod contents;
 pub mod faults;
 pub mod kinds;
+pub mod reading;
 pub mod records;
 pub mod sections;
-pub mod specification;
-pub mod reading;
 pub mod spec_file;
+pub mod specification;
 pub mod tables;

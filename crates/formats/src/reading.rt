@@ -5,7 +5,6 @@ ghost use Rattle.std.specs.Results.{Cases};
 ghost use Rattle.formats.specs.Faults.{reading-fault};
 ghost use Rattle.formats.specs.Sections.{Lowest};
 ghost use Rattle.formats.specs.SpecFiles.{n-of, m-of, b-of, edges-from, vertices-from, nests-from, ends-from, Framed, All-inside, Number-outside, Refused, Accepted, States, spec-bounds};
-
 use crate::faults::ReadingFault;
 use crate::kinds::Ends;
 use crate::kinds::EndsRecord;
@@ -16,8 +15,8 @@ use crate::kinds::SpecEdgeRecord;
 use crate::kinds::Vertex;
 use crate::kinds::VertexRecord;
 use crate::records::Bounds;
-use crate::sections::word_at;
 use crate::sections::Section;
+use crate::sections::word_at;
 use crate::spec_file::SpecFile;
 use crate::specification::Specification;
 
@@ -34,7 +33,9 @@ pub fn sizes(bytes: &[u8]) -> Result<SpecSizes, ReadingFault>
     ensures { λ r. ⌜ Cases r (λ z. Framed (now (bytes .entry)) × (z .vertices ≡ n-of (now (bytes .entry))) × (z .edges ≡ m-of (now (bytes .entry))) × (z .blocks ≡ b-of (now (bytes .entry)))) (λ e. Refused (now (bytes .entry)) (reading-fault e)) ⌝ }
 {
     if bytes.len() < 6 {
-        return Err(ReadingFault::Short { present: bytes.len() });
+        return Err(ReadingFault::Short {
+            present: bytes.len(),
+        });
     }
     let vertices = word_at(bytes, 0);
     let edges = word_at(bytes, 2);
@@ -52,7 +53,11 @@ pub fn sizes(bytes: &[u8]) -> Result<SpecSizes, ReadingFault>
     if bytes.len() != needed {
         return Err(ReadingFault::Length { needed });
     }
-    Ok(SpecSizes { vertices, edges, blocks })
+    Ok(SpecSizes {
+        vertices,
+        edges,
+        blocks,
+    })
 }
 
 impl<'a> SpecFile<'a> {
@@ -61,8 +66,17 @@ impl<'a> SpecFile<'a> {
         requires { ⌜ (sizes .vertices ≡ n-of (now bytes)) × (sizes .edges ≡ m-of (now bytes)) × (sizes .blocks ≡ b-of (now bytes)) ⌝ }
         ensures { λ r. ⌜ now (r .bytes) ≡ now (bytes .entry) ⌝ }
     {
-        let SpecSizes { vertices, edges, blocks } = sizes;
-        SpecFile { bytes, vertices, edges, blocks }
+        let SpecSizes {
+            vertices,
+            edges,
+            blocks,
+        } = sizes;
+        SpecFile {
+            bytes,
+            vertices,
+            edges,
+            blocks,
+        }
     }
 
     pub fn edges(&self) -> Section<'a, SpecEdge>
@@ -80,19 +94,32 @@ impl<'a> SpecFile<'a> {
     pub fn nests(&self) -> Section<'a, Nest>
         ensures { λ r. ⌜ (now (r .bytes) ≡ now (now (self .entry) .bytes)) × (r .base ≡ nests-from (now (now (self .entry) .bytes))) × (r .count ≡ b-of (now (now (self .entry) .bytes))) ⌝ }
     {
-        Section::new(self.bytes, 6 + 4 * (self.edges as usize + self.vertices as usize), self.blocks)
+        Section::new(
+            self.bytes,
+            6 + 4 * (self.edges as usize + self.vertices as usize),
+            self.blocks,
+        )
     }
 
     pub fn ends(&self) -> Section<'a, Ends>
         ensures { λ r. ⌜ (now (r .bytes) ≡ now (now (self .entry) .bytes)) × (r .base ≡ ends-from (now (now (self .entry) .bytes))) × (r .count ≡ b-of (now (now (self .entry) .bytes))) ⌝ }
     {
-        Section::new(self.bytes, 6 + 4 * (self.edges as usize + self.vertices as usize + self.blocks as usize), self.blocks)
+        Section::new(
+            self.bytes,
+            6 + 4 * (self.edges as usize + self.vertices as usize + self.blocks as usize),
+            self.blocks,
+        )
     }
 
     fn bounds(&self) -> Bounds
         ensures { λ r. ⌜ r ≡ spec-bounds (now (now (self .entry) .bytes)) ⌝ }
     {
-        Bounds { vertices: self.vertices, blocks: self.blocks, copies: 0, steps: 0 }
+        Bounds {
+            vertices: self.vertices,
+            blocks: self.blocks,
+            copies: 0,
+            steps: 0,
+        }
     }
 
     /// The lowest byte position of a number outside its range, in any section.
@@ -121,7 +148,12 @@ impl<'a> SpecFile<'a> {
         let vertices = self.vertices().table();
         let nests = self.nests().table();
         let ends = self.ends().table();
-        Specification { edges, vertices, nests, ends }
+        Specification {
+            edges,
+            vertices,
+            nests,
+            ends,
+        }
     }
 }
 

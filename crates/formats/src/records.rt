@@ -30,7 +30,11 @@ impl Span {
     pub const fn but_zero(i: u16, low: u32, end: u32) -> Self
         ensures { λ r. ⌜ r ≡ but-zero i (record { low = low; end = end }) ⌝ }
     {
-        if i == 0 { Span { low: 0, end: 1 } } else { Span { low, end } }
+        if i == 0 {
+            Span { low: 0, end: 1 }
+        } else {
+            Span { low, end }
+        }
     }
 }
 
@@ -42,11 +46,15 @@ pub trait Record: Copy {
     const FLOOR: usize;
 
     ghost kind: { Kind };
+
     ghost made: { ℕ → ℕ → Self };
+
     ghost first: { Self → ℕ };
+
     ghost second: { Self → ℕ };
 
     law firstly: { (a b : ℕ) → first (made a b) ≡ a };
+
     law secondly: { (a b : ℕ) → second (made a b) ≡ b };
 
     /// `FLOOR` and `CEILING`, for code that is generic in the kind.

@@ -9,7 +9,6 @@ ghost use Rattle.formats.specs.Words.{word};
 ghost use Rattle.formats.specs.Kinds.{Fits, Within};
 ghost use Rattle.formats.specs.Sections.{first-at, second-at, First-within, Second-within, Scanned, Inside, Outside, Lowest, Ascends, Ascending, Unordered, stated, section};
 ghost use Rattle.formats.specs.Tables.{kept};
-
 use crate::records::Bounds;
 use crate::records::Record;
 use crate::records::Span;
@@ -47,7 +46,12 @@ impl<'a, R: Record> Section<'a, R> {
         requires { ⌜ base + 4 * count ≤ length (now bytes) ⌝ }
         ensures { λ r. ⌜ (now (r .bytes) ≡ now (bytes .entry)) × (r .base ≡ base) × (r .count ≡ count) ⌝ }
     {
-        Section { bytes, base, count, kind: PhantomData }
+        Section {
+            bytes,
+            base,
+            count,
+            kind: PhantomData,
+        }
     }
 
     /// Whether a section of this kind may have `size` records.
@@ -69,7 +73,10 @@ impl<'a, R: Record> Section<'a, R> {
         requires { ⌜ i < now self .count ⌝ }
         ensures { λ r. ⌜ r ≡ word (now (now (self .entry) .bytes)) (second-at (now (self .entry) .base) (now (self .entry) .count) i) ⌝ }
     {
-        word_at(self.bytes, self.base + 2 * (self.count as usize + i as usize))
+        word_at(
+            self.bytes,
+            self.base + 2 * (self.count as usize + i as usize),
+        )
     }
 
     /// The record numbered `i`.

@@ -1,6 +1,5 @@
 ghost use Rattle.formats.specs.Specifications.{Sized, Edges-ranged, Homes-ranged, Whole-ranged, Nests-ranged, Ends-ranged};
 ghost use Rattle.formats.specs.Tables.{kept};
-
 use crate::kinds::Ends;
 use crate::kinds::EndsRecord;
 use crate::kinds::Nest;

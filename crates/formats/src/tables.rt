@@ -4,7 +4,6 @@ ghost use mathlib.Core.Bool.{cond};
 ghost use Prim.Native.Nat.{_+_, _≤_};
 ghost use lib.Dec.{ltb};
 ghost use lib.ListN.{take};
-
 use std::alloc::AllocError;
 
 /// At most `N` items, in place: the first `len` of `items`.
@@ -30,7 +29,10 @@ impl<T: Copy, const N: usize> Table<T, N> {
         ensures len { λ r. ⌜ r .len ≡ 0 ⌝ }
         ensures items { λ r. ⌜ take (r .len) (r .items) ≡ [] ⌝ }
     {
-        Table { items: [filler; N], len: 0 }
+        Table {
+            items: [filler; N],
+            len: 0,
+        }
     }
 
     pub fn len(&self) -> usize
