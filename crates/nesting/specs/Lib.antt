@@ -1,3 +1,4 @@
 pub mod Faults
 pub mod Unsealed
 pub mod Of
+pub mod Parts

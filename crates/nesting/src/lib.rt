@@ -3,3 +3,6 @@
 pub mod faults;
 pub mod sealed;
 pub mod sealing;
+
+mod domains;
+mod parts;
