@@ -51,20 +51,20 @@ module _ {p : ℕ → ℕ} (f : Falls p) where
   meet i j = meet-go (i + j) i j (omega arith)
 
 module _ (sp : Spec) (r : Run) (o : ℕ → Bool) where
-  sooner-never : {s t : ℕ} → s ≡ t → Sooner sp r o s t → ⊥
+  pub sooner-never : {s t : ℕ} → s ≡ t → Sooner sp r o s t → ⊥
   sooner-never e (inl h) = omega (arith, ap (r .block) e)
   sooner-never {s} {t} e (inr h) = turned-never (o (sp .kind (r .block s))) s (subst (λ x. Turned (o (sp .kind (r .block s))) s x) (sym e) (h .1))
 
   pub turned-move : {a b : ℕ} (s t : ℕ) → a ≡ b → Turned (o (sp .kind a)) s t → Turned (o (sp .kind b)) s t
   turned-move s t e h = subst (λ x. Turned (o (sp .kind x)) s t) e h
 
-  sooner-join : {s t u : ℕ} → Sooner sp r o s t → Sooner sp r o t u → Sooner sp r o s u
+  pub sooner-join : {s t u : ℕ} → Sooner sp r o s t → Sooner sp r o t u → Sooner sp r o s u
   sooner-join (inl h) (inl k) = inl (omega arith)
   sooner-join (inl h) (inr k) = inl (omega (arith, k .0))
   sooner-join (inr h) (inl k) = inl (omega (arith, h .0))
   sooner-join {s} {t} {u} (inr h) (inr k) = inr (h .0 ∙ k .0, turned-join (o (sp .kind (r .block s))) s t u (h .1) (turned-move t u (sym (h .0)) (k .1)))
 
-  sooner-total : {s t : ℕ} → s ≢ t → Sooner sp r o s t ⊎ Sooner sp r o t s
+  pub sooner-total : {s t : ℕ} → s ≢ t → Sooner sp r o s t ⊎ Sooner sp r o t s
   sooner-total {s} {t} d = cases (same-or (r .block s) (r .block t))
       (λ e. cases (turned-total (o (sp .kind (r .block s))) s t d)
       (λ h. inl (inr (e, h)))
@@ -134,7 +134,10 @@ count-lt {n = suc n} x f l g h (hit a c) (miss b d) = absurd (b (f n a))
 count-lt x f l g h (miss a c) (hit b d) = omega (arith, count-le f c d)
 count-lt {n = suc n} x f l g h (miss a c) (miss b d) = cases (same-or x n) (λ e. absurd (b (rw e at h))) (λ e. count-lt x f (omega arith) g h c d)
 
-count-all : (n : ℕ) → Count (λ j. Unit {0}) n n
+pub count-one : {P : ℕ → Type 0} {n q q′ : ℕ} → Count P n q → Count P n q′ → q ≡ q′
+count-one a b = omega (arith, count-le (λ j x. x) a b, count-le (λ j x. x) b a)
+
+pub count-all : (n : ℕ) → Count (λ j. Unit {0}) n n
 count-all zero = none
 count-all (suc n) = hit tt (count-all n)
 
@@ -150,7 +153,7 @@ module _ (sp : Spec) (r : Run) (o : ℕ → Bool) (f : Falls (r .parent)) where
       (w .0, count-lt i (λ j b. tt) h (before-never sp r o f i) tt (w .1) (count-all (r .c)), w .1)
 
   pub position-one : (i q q′ : ℕ) → Position sp r o i q → Position sp r o i q′ → q ≡ q′
-  position-one i q q′ a b = omega (arith, count-le (λ j x. x) a b, count-le (λ j x. x) b a)
+  position-one i q q′ a b = count-one a b
 
   pub position-less : (i j q q′ : ℕ) → i < r .c → Position sp r o i q → Position sp r o j q′ → Before sp r o i j → q < q′
   position-less i j q q′ h a b x = count-lt i (λ k y. before-join sp r o f k i j y x) h (before-never sp r o f i) x a b

@@ -1,4 +1,5 @@
 ghost use Rattle.model.specs.Laws.{Path-law, Order-law, Label-law, Apart-law, After-law, Growth-law, Answer-law};
+ghost use Rattle.model.specs.Listings.{Listing-law};
 ghost use Rattle.model.specs.TwoRound.{Import-law};
 
 pub fn path_law_stands() -> u8
@@ -9,6 +10,12 @@ pub fn path_law_stands() -> u8
 
 pub fn order_law_stands() -> u8
     ensures { λ _. ⌜ Order-law ⌝ }
+{
+    0
+}
+
+pub fn listing_law_stands() -> u8
+    ensures { λ _. ⌜ Listing-law ⌝ }
 {
     0
 }

@@ -1,0 +1,311 @@
+-- Positions are places: each order can be written out as a list, and counting the copies before a copy gives its place there.
+use mathlib.Core.Path.{_≡_, refl, sym, ap, subst, _∙_}
+use mathlib.Core.Logic.{_≢_, _⊎_, _↔_, inl, inr}
+use mathlib.Core.Bool.{Bool}
+use mathlib.Core.List.{List, [], _∷_, _++_}
+use Prim.Native.Nat.{ℕ, zero, suc, _≤_, _<_, _+_}
+use native.Mathlib.Omega.{arith}
+use lib.ListN.{length, getD}
+use Rattle.model.specs.Forests.{Chain, stop, up, Falls, Split}
+use Rattle.model.specs.Specifications.{Spec}
+use Rattle.model.specs.Runs.{Run}
+use Rattle.model.specs.Orders.{Sooner, Before, Count, none, hit, miss, Position}
+use Rattle.model.specs.Listings.{Stands, Child, Children, Laid, nothing, copy, Listing, Written}
+use Rattle.model.proofs.Chains.{same-or, zero-or, less-or, cases, chain-le, chain-eq, chain-join, chain-child, above-zero}
+use Rattle.model.proofs.Orders.{sooner-never, sooner-join, sooner-total, branch, before-never, before-join, count-all, count-one, position-one}
+
+-- x is in the list
+data In (x : ℕ) : List ℕ → Type 0 where
+  first : {l : List ℕ} → In x (x ∷ l)
+  later : {y : ℕ} {l : List ℕ} → In x l → In x (y ∷ l)
+
+in-none : {x : ℕ} → In x [] → ⊥
+in-none h = elim h [ ]
+
+in-cons : {x y : ℕ} {l : List ℕ} → In x (y ∷ l) → (x ≡ y) ⊎ In x l
+in-cons first = inl refl
+in-cons (later h) = inr h
+
+in-left : {x : ℕ} {l : List ℕ} (m : List ℕ) → In x l → In x (l ++ m)
+in-left m first = first
+in-left m (later h) = later (in-left m h)
+
+in-right : {x : ℕ} (l : List ℕ) {m : List ℕ} → In x m → In x (l ++ m)
+in-right [] h = h
+in-right (y ∷ l) h = later (in-right l h)
+
+in-append : {x : ℕ} (l : List ℕ) {m : List ℕ} → In x (l ++ m) → In x l ⊎ In x m
+in-append [] h = inr h
+in-append (y ∷ l) first = inl first
+in-append (y ∷ l) (later h) = cases (in-append l h) (λ a. inl (later a)) inr
+
+place-in : {x : ℕ} (l : List ℕ) (q : ℕ) → Stands l q x → In x l
+place-in [] q h = absurd (omega (arith, h .0))
+place-in {x} (y ∷ l) zero h = subst (λ z. In z (y ∷ l)) (h .1) first
+place-in (y ∷ l) (suc q) h = later (place-in l q (omega (arith, h .0), h .1))
+
+in-place : {x : ℕ} {l : List ℕ} → In x l → (q : ℕ) × Stands l q x
+in-place first = (0, (omega arith, refl))
+in-place (later h) = let w = in-place h in (suc (w .0), (omega (arith, w .1 .0), w .1 .1))
+
+-- every element stands in the relation R to all that come after it
+data Rising (R : ℕ → ℕ → Type 0) : List ℕ → Type 0 where
+  empty : Rising R []
+  more : {x : ℕ} {l : List ℕ} → ((y : ℕ) → In y l → R x y) → Rising R l → Rising R (x ∷ l)
+
+rising-append : {R : ℕ → ℕ → Type 0} {l m : List ℕ} → Rising R l → Rising R m → ((x y : ℕ) → In x l → In y m → R x y) → Rising R (l ++ m)
+rising-append empty b f = b
+rising-append {l = x ∷ l} (more h a) b f = more
+    (λ y i. cases (in-append l i) (h y) (f x y first))
+    (rising-append a b (λ x y i. f x y (later i)))
+
+rising-places : {R : ℕ → ℕ → Type 0} {l : List ℕ} → Rising R l → (q q′ k k′ : ℕ) → Stands l q k → Stands l q′ k′ → q < q′ → R k k′
+rising-places empty q q′ k k′ a b h = absurd (omega (arith, b .0))
+rising-places (more f r) q zero k k′ a b h = absurd (omega arith)
+rising-places {R} {l = x ∷ l} (more f r) zero (suc q′) k k′ a b h =
+    subst (λ z. R z k′) (a .1) (f k′ (place-in l q′ (omega (arith, b .0), b .1)))
+rising-places (more f r) (suc q) (suc q′) k k′ a b h =
+    rising-places r q q′ k k′ (omega (arith, a .0), a .1) (omega (arith, b .0), b .1) (omega arith)
+
+places-rising : {R : ℕ → ℕ → Type 0} (l : List ℕ) → ((q q′ k k′ : ℕ) → Stands l q k → Stands l q′ k′ → q < q′ → R k k′) → Rising R l
+places-rising [] f = empty
+places-rising (x ∷ l) f = more
+    (λ y i. let w = in-place i in f 0 (suc (w .0)) x y (omega arith, refl) (omega (arith, w .1 .0), w .1 .1) (omega arith))
+    (places-rising l (λ q q′ k k′ a b h. f (suc q) (suc q′) k k′ (omega (arith, a .0), a .1) (omega (arith, b .0), b .1) (omega arith)))
+
+-- counting
+
+count-iff : {P Q : ℕ → Type 0} {n q : ℕ} → ((j : ℕ) → j < n → P j → Q j) → ((j : ℕ) → j < n → Q j → P j) → Count P n q → Count Q n q
+count-iff f g none = none
+count-iff {n = suc n} f g (hit p c) = hit (f n (omega arith) p) (count-iff (λ j l. f j (omega arith)) (λ j l. g j (omega arith)) c)
+count-iff {n = suc n} f g (miss p c) = miss (λ x. p (g n (omega arith) x)) (count-iff (λ j l. f j (omega arith)) (λ j l. g j (omega arith)) c)
+
+-- one number more
+count-add : {P : ℕ → Type 0} {n q : ℕ} (x : ℕ) → x < n → (¬ (P x)) → Count P n q → Count (λ j. (j ≡ x) ⊎ P j) n (suc q)
+count-add x l g none = absurd (omega arith)
+count-add {P} {n = suc n} x l g (hit p c) = cases (same-or n x)
+    (λ e. absurd (g (subst P e p)))
+    (λ d. hit (inr p) (count-add x (omega arith) g c))
+count-add {P} {n = suc n} x l g (miss p c) = cases (same-or n x)
+    (λ e. hit (inl e) (count-iff (λ j l a. inr a) (λ j l a. cases a (λ e′. absurd (omega arith)) (λ b. b)) c))
+    (λ d. miss (λ a. cases a d p) (count-add x (omega arith) g c))
+
+count-empty : {P : ℕ → Type 0} (n : ℕ) → ((j : ℕ) → ¬ (P j)) → Count P n 0
+count-empty zero g = none
+count-empty (suc n) g = miss (g n) (count-empty n g)
+
+-- numbers below n that all differ, one to each place below q: there are q of them
+count-places : (f : ℕ → ℕ) (n q : ℕ) → ((p : ℕ) → p < q → f p < n) → ((p p′ : ℕ) → p < p′ → p′ < q → f p ≢ f p′)
+    → Count (λ j. (p : ℕ) × (p < q) × (f p ≡ j)) n q
+count-places f n zero r d = count-empty n (λ j h. omega (arith, h .1))
+count-places f n (suc q) r d = count-iff
+    (λ j l a. cases a (λ e. (q, omega arith, sym e)) (λ h. (h .0, omega (arith, h .1), h .2)))
+    (λ j l h. cases (same-or (h .0) q) (λ e. inl (sym (h .2) ∙ ap f e)) (λ g. inr (h .0, omega (arith, h .1), h .2)))
+    (count-add (f q) (r q (omega arith)) (λ h. d (h .0) q (h .1) (omega arith) (h .2))
+    (count-places f n q (λ p l. r p (omega arith)) (λ p p′ l l′. d p p′ l (omega arith))))
+
+module _ (sp : Spec) (r : Run) (o : ℕ → Bool) (tree : Falls (r .parent)) where
+  -- k comes sooner than k′, under one copy
+  record Abreast (k k′ : ℕ) : Type 0 where
+    left-above : 0 < k
+    right-above : 0 < k′
+    one-parent : r .parent k ≡ r .parent k′
+    comes : Sooner sp r o k k′
+
+  abreast : {i : ℕ} {ks : List ℕ} → Children sp r o i ks → Rising Abreast ks
+  abreast {i} {ks} c = places-rising ks λ q q′ k k′ a b h.
+      let x = c .only-children q k a in
+      let y = c .only-children q′ k′ b in
+      record { left-above = x .not-whole; right-above = y .not-whole; one-parent = x .directly ∙ sym (y .directly); comes = c .in-order q q′ k k′ a b h }
+
+  -- x lies under one of the copies in the list, or is one
+  abbrev Under : ℕ → List ℕ → Type 0
+  Under x is = (k : ℕ) × In k is × Chain (r .parent) x k
+
+  abbrev Copies : List ℕ → Type 0
+  Copies is = (k : ℕ) → In k is → k < r .c
+
+  children-copies : {i : ℕ} {ks : List ℕ} → Children sp r o i ks → Copies ks
+  children-copies c k h = let w = in-place h in c .only-children (w .0) k (w .1) .in-run
+
+  child-under : {i x : ℕ} {ks : List ℕ} → Children sp r o i ks → Under x ks → Chain (r .parent) x i × (i ≢ x)
+  child-under {i} {x} {ks} c u =
+      let w = in-place (u .1) in
+      let d = c .only-children (w .0) (u .0) (w .1) in
+      (chain-join (u .2) (up (chain-eq (d .directly))), λ e. omega (arith, e, chain-le tree (u .2), tree .falls (u .0) (d .not-whole), d .directly))
+
+  laid-under : {is l : List ℕ} → Laid sp r o is l → Copies is → (x : ℕ) → In x l → Under x is × (x < r .c)
+  laid-under nothing h x a = absurd (in-none a)
+  laid-under (copy {i} {ks} {below} {is} {rest} c b d) h x a = cases (in-cons a)
+      (λ e. ((i, first, chain-eq e), subst (λ z. z < r .c) (sym e) (h i first)))
+      (λ a′. cases (in-append below a′)
+      (λ y. let w = laid-under b (children-copies c) x y in ((i, first, child-under c (w .0) .0), w .1))
+      (λ y. let w = laid-under d (λ k z. h k (later z)) x y in ((w .0 .0, later (w .0 .1), w .0 .2), w .1)))
+
+  under-laid : {is l : List ℕ} → Laid sp r o is l → (x : ℕ) → x < r .c → Under x is → In x l
+  under-laid nothing x h u = absurd (in-none (u .1))
+  under-laid (copy {i} {ks} {below} {is} {rest} c b d) x h u = cases (in-cons (u .1))
+      (λ e. cases (chain-child (u .2))
+      (λ e′. subst (λ z. In z (i ∷ (below ++ rest))) (sym e ∙ sym e′) first)
+      (λ k.
+      let z : 0 < k .0 = cases (zero-or (k .0)) (λ e. absurd (k .3 (e ∙ sym (tree .zero-parent) ∙ ap (r .parent) (sym e) ∙ k .2))) (λ y. y) in
+      let w = c .all-children (k .0) (record { in-run = omega (arith, chain-le tree (k .1)); not-whole = z; directly = k .2 ∙ e }) in
+      later (in-left rest (under-laid b x h (k .0, place-in ks (w .0) (w .1), k .1)))))
+      (λ y. later (in-right below (under-laid d x h (u .0, y, u .2))))
+
+  laid-rising : {is l : List ℕ} → Laid sp r o is l → Copies is → Rising Abreast is → Rising (Before sp r o) l
+  laid-rising nothing h a = empty
+  laid-rising (copy {i} {ks} {below} {is} {rest} c b d) h (more f a) =
+      let apart : (x y : ℕ) → Chain (r .parent) x i → In y rest → Before sp r o x y = λ x y p q.
+      let u = laid-under d (λ k z. h k (later z)) y q .0 in
+      let g = f (u .0) (u .1) in
+      branch sp r o (record { left = p; right = u .2; left-pos = g .left-above; right-pos = g .right-above; same-parent = g .one-parent }) (g .comes) in
+      let under : (y : ℕ) → In y below → Chain (r .parent) y i × (i ≢ y) = λ y q. child-under c (laid-under b (children-copies c) y q .0) in
+      more
+      (λ y q. cases (in-append below q) (λ q′. inl (under y q′)) (λ q′. apart i y stop q′))
+      (rising-append (laid-rising b (children-copies c) (abreast c)) (laid-rising d (λ k z. h k (later z)) a) (λ x y p q. apart x y (under x p .0) q))
+
+  module _ {l : List ℕ} (w : Listing sp r o l) (some : 0 < r .c) where
+    only-zero : Copies (0 ∷ [])
+    only-zero k h = cases (in-cons h) (λ e. omega arith) (λ a. absurd (in-none a))
+
+    place-range : (q i : ℕ) → Stands l q i → i < r .c
+    place-range q i h = laid-under w only-zero i (place-in l q h) .1
+
+    place-of : (i : ℕ) → i < r .c → (q : ℕ) × Stands l q i
+    place-of i h = in-place (under-laid w i h (0, first, above-zero tree i))
+
+    place-before : (q q′ i i′ : ℕ) → Stands l q i → Stands l q′ i′ → q < q′ → Before sp r o i i′
+    place-before = rising-places (laid-rising w only-zero (more (λ y h. absurd (in-none h)) empty))
+
+    places-differ : (p p′ : ℕ) → p < p′ → p′ < length l → getD l p 0 ≢ getD l p′ 0
+    places-differ p p′ h h′ e = before-never sp r o tree (getD l p 0)
+        (place-before p p′ (getD l p 0) (getD l p 0) (omega arith, refl) (h′, sym e) h)
+
+    -- the copies before the one at place q are those at the places before q
+    place-position : (i q : ℕ) → Stands l q i → Position sp r o i q
+    place-position i q h = count-iff
+        (λ j lj a. place-before (a .0) q j i (omega (arith, a .1, h .0), a .2) h (a .1))
+        (λ j lj b. let p = place-of j lj in (p .0, earlier j b (p .0) (p .1), p .1 .1))
+        (count-places (λ p. getD l p 0) (r .c) q
+        (λ p lp. place-range p (getD l p 0) (omega (arith, h .0), refl))
+        (λ p p′ lp lp′. places-differ p p′ lp (omega (arith, h .0))))
+      where
+        earlier : (j : ℕ) → Before sp r o j i → (p : ℕ) → Stands l p j → p < q
+        earlier j b p s = cases (less-or p q) (λ x. x) λ x. cases (same-or q p)
+            (λ e. absurd (before-never sp r o tree i (subst (λ z. Before sp r o z i) (sym (s .1) ∙ ap (λ p. getD l p 0) (sym e) ∙ h .1) b)))
+            (λ d. absurd (before-never sp r o tree i (before-join sp r o tree i j i (place-before q p i j h s (omega arith)) b)))
+
+    pub place-is : (i q : ℕ) → i < r .c → Position sp r o i q ↔ Stands l q i
+    place-is i q h = (
+      (λ a. let p = place-of i h in subst (λ z. Stands l z i) (position-one sp r o tree i (p .0) q (place-position i (p .0) (p .1)) a) (p .1)),
+      place-position i q,
+    )
+
+    pub listing-length : length l ≡ r .c
+    listing-length = count-one
+        (count-iff (λ j lj a. tt) (λ j lj a. let p = place-of j lj in (p .0, p .1 .0, p .1 .1))
+        (count-places (λ p. getD l p 0) (r .c) (length l) (λ p lp. place-range p (getD l p 0) (lp, refl)) places-differ))
+        (count-all (r .c))
+
+  -- writing an order out
+
+  abbrev Soon : ℕ → ℕ → Type 0
+  Soon = Sooner sp r o
+
+  -- the list with k put where it belongs
+  insert : (k : ℕ) {ks : List ℕ} → Rising Soon ks → (¬ (In k ks)) → (l : List ℕ) × Rising Soon l × ((x : ℕ) → In x l ↔ ((x ≡ k) ⊎ In x ks))
+  insert k empty g = ((k ∷ []), more (λ y h. absurd (in-none h)) empty, λ x. (in-cons, λ a. cases a (λ e. subst (λ z. In z (k ∷ [])) (sym e) first) (λ h. absurd (in-none h))))
+  insert k {ks = y ∷ ys} (more f a) g = cases (sooner-total sp r o {s = k} {t = y} (λ e. g (subst (λ z. In z (y ∷ ys)) (sym e) first)))
+      (λ h. (
+        (k ∷ (y ∷ ys)),
+        more (λ x i. cases (in-cons i) (λ e. subst (λ z. Soon k z) (sym e) h) (λ i′. sooner-join sp r o h (f x i′))) (more f a),
+        λ x. (in-cons, λ i. cases i (λ e. subst (λ z. In z (k ∷ (y ∷ ys))) (sym e) first) later),
+      ))
+      (λ h.
+      let w = insert k a (λ i. g (later i)) in (
+        (y ∷ w .0),
+        more (λ x i. cases (w .2 x .0 i) (λ e. subst (λ z. Soon y z) (sym e) h) (f x)) (w .1),
+        λ x. (
+          (λ i. cases (in-cons i)
+              (λ e. inr (subst (λ z. In z (y ∷ ys)) (sym e) first))
+              (λ i′. cases (w .2 x .0 i′) inl (λ i″. inr (later i″)))),
+          (λ i. cases i
+              (λ e. later (w .2 x .1 (inl e)))
+              (λ i′. cases (in-cons i′) (λ e. subst (λ z. In z (y ∷ w .0)) (sym e) first) (λ i″. later (w .2 x .1 (inr i″))))),
+        ),
+      ))
+
+  child-or : (i k : ℕ) → k < r .c → Child r i k ⊎ (¬ (Child r i k))
+  child-or i k h = cases (zero-or k)
+      (λ z. inr (λ c. omega (arith, z, c .not-whole)))
+      (λ z. cases (same-or (r .parent k) i)
+      (λ e. inl (record { in-run = h; not-whole = z; directly = e }))
+      (λ d. inr (λ c. d (c .directly))))
+
+  -- the children of i that are numbered below m, in order
+  children-below : (i m : ℕ) → m ≤ r .c → (ks : List ℕ) × Rising Soon ks × ((x : ℕ) → In x ks ↔ (Child r i x × (x < m)))
+  children-below i zero h = ([], empty, λ x. ((λ a. absurd (in-none a)), λ a. absurd (omega (arith, a .1))))
+  children-below i (suc m) h =
+      let w = children-below i m (omega arith) in
+      cases (child-or i m (omega arith))
+      (λ c.
+      let l = insert m (w .1) (λ a. omega (arith, w .2 m .0 a .1)) in (
+        l .0,
+        l .1,
+        λ x. (
+          (λ a. cases (l .2 x .0 a)
+              (λ e. (subst (λ z. Child r i z) (sym e) c, omega arith))
+              (λ b. let d = w .2 x .0 b in (d .0, omega (arith, d .1)))),
+          (λ a. l .2 x .1 (cases (same-or x m) inl (λ d. inr (w .2 x .1 (a .0, omega (arith, a .1)))))),
+        ),
+      ))
+      (λ g. (
+        w .0,
+        w .1,
+        λ x. (
+          (λ a. let d = w .2 x .0 a in (d .0, omega (arith, d .1))),
+          (λ a. w .2 x .1 (a .0, cases (same-or x m) (λ e. absurd (g (subst (λ z. Child r i z) e (a .0)))) (λ d. omega (arith, a .1)))),
+        ),
+      ))
+
+  children-of : (i : ℕ) → (ks : List ℕ) × Children sp r o i ks
+  children-of i =
+      let w = children-below i (r .c) (omega arith) in (
+        w .0,
+        record {
+          only-children = λ q k a. w .2 k .0 (place-in (w .0) q a) .0;
+          all-children = λ k c. in-place (w .2 k .1 (c, c .in-run));
+          in-order = rising-places (w .1);
+        },
+      )
+
+  -- copies numbered from c - m on
+  abbrev High : ℕ → List ℕ → Type 0
+  High m is = (k : ℕ) → In k is → (k < r .c) × (r .c ≤ k + m)
+
+  laid-step : (m : ℕ) → ((ks : List ℕ) → High m ks → (l : List ℕ) × Laid sp r o ks l) → (is : List ℕ) → High (suc m) is → (l : List ℕ) × Laid sp r o is l
+  laid-step m on [] h = ([], nothing)
+  laid-step m on (i ∷ is) h =
+      let c = children-of i in
+      let b = on (c .0) (λ k a.
+      let p = in-place a in
+      let d = c .1 .only-children (p .0) k (p .1) in
+      (d .in-run, omega (arith, h i first .1, tree .falls k (d .not-whole), d .directly))) in
+      let d = laid-step m on is (λ k a. h k (later a)) in
+      (i ∷ (b .0 ++ d .0), copy (c .1) (b .1) (d .1))
+
+  laid-of : (m : ℕ) (is : List ℕ) → High m is → (l : List ℕ) × Laid sp r o is l
+  laid-of zero [] h = ([], nothing)
+  laid-of zero (i ∷ is) h = let a = h i first in absurd (omega (arith, a .0, a .1))
+  laid-of (suc m) is h = laid-step m (laid-of m) is h
+
+  pub listing-of : 0 < r .c → (l : List ℕ) × Listing sp r o l
+  listing-of h = laid-of (r .c) (0 ∷ []) (λ k a. cases (in-cons a) (λ e. (omega arith, omega arith)) (λ b. absurd (in-none b)))
+
+pub written : (s : Spec) (r : Run) (o : ℕ → Bool) → Falls (r .parent) → 0 < r .c → Written s r o
+written s r o tree h = record {
+  some-listing = listing-of s r o tree h;
+  as-long = λ l w. listing-length s r o tree w h;
+  position-place = λ l w. place-is s r o tree w h;
+}
