@@ -1,13 +1,26 @@
 -- The question rule whole.
-use mathlib.Core.Path.{_≡_, refl, sym, ap, subst, _∙_}
-use mathlib.Core.Logic.{_≢_, _⊎_, _↔_, inl, inr}
+use mathlib.Core.Path.{_≡_, refl}
+use mathlib.Core.Logic.{_⊎_, _↔_, inl, inr}
 use mathlib.Core.Bool.{Bool, true, false}
-use Prim.Native.Nat.{ℕ, zero, suc, _≤_, _<_, _+_}
+use Prim.Native.Nat.{ℕ, _<_}
 use native.Mathlib.Omega.{arith}
 use lib.Dec.{T}
 use Rattle.model.specs.Labels.{Label, Other, Yes, by-equal, by-loop, by-reach, Answer, equal, forked, looped, asked}
-use Rattle.model.specs.Laws.{Alike, As}
-use Rattle.model.proofs.Chains.{cases, less-or}
+use Rattle.model.specs.Laws.{Answered}
+use Rattle.model.proofs.Cases.{cases, same-or, less-or}
+use Rattle.model.proofs.Tests.{test-lt}
+
+-- two pairs of numbers compare alike
+abbrev pub Alike : ℕ → ℕ → ℕ → ℕ → Type 0
+Alike a b a′ b′ = ((a < b) ↔ (a′ < b′)) × ((b < a) ↔ (b′ < a′))
+
+-- to the question rule the labels A and B are as A′ and B′
+pub record As (A B A′ B′ : Label) : Type 0 where
+  pub as1 : Alike (A .q1) (B .q1) (A′ .q1) (B′ .q1)
+  pub as2 : Alike (A .q2) (B .q2) (A′ .q2) (B′ .q2)
+  pub as3 : Alike (A .q3) (B .q3) (A′ .q3) (B′ .q3)
+  pub as-left : A .vertex ≡ A′ .vertex
+  pub as-right : B .vertex ≡ B′ .vertex
 
 bool-ext : (a b : Bool) → (T a → T b) → (T b → T a) → a ≡ b
 bool-ext true true f g = refl
@@ -85,3 +98,38 @@ answers-alike {A} {B} {A′} {B′} {R} {R′} {y} {y′} {c} {c′} {q} {q′} 
     (alike-other (A .q1) (B .q1) (A .q3) (B .q3) (A′ .q1) (B′ .q1) (A′ .q3) (B′ .q3) (a .as1) (a .as3))
     (alike-other (A′ .q1) (B′ .q1) (A′ .q3) (B′ .q3) (A .q1) (B .q1) (A .q3) (B .q3) (alike-back (a .as1)) (alike-back (a .as3)))
     (a .as1 .0) r x z
+
+other-or : (a a′ b b′ : ℕ) → Other a a′ b b′ ⊎ (¬ (Other a a′ b b′))
+other-or a a′ b b′ = cases (less-or a a′)
+    (λ l. cases (less-or b′ b) (λ m. inl (inl (l, m))) (λ m. inr (λ x. omega arith)))
+    (λ l. cases (less-or a′ a)
+    (λ l′. cases (less-or b b′) (λ m. inl (inr (l′, m))) (λ m. inr (λ x. omega arith)))
+    (λ l′. inr (λ x. omega arith)))
+
+same-labels : (A B : Label) → As A B A B
+same-labels A B = record { as1 = (same, same); as2 = (same, same); as3 = (same, same); as-left = refl; as-right = refl }
+  where
+    same : {P : Type 0} → P ↔ P
+    same = ((λ p. p), λ p. p)
+
+-- the question rule comes to one answer
+pub answered : (A B : Label) (reach : Bool) → Answered A B reach
+answered A B reach = cases (same-or (A .q1) (B .q1))
+    (λ e. only (equal e truly))
+    (λ d. cases (other-or (A .q1) (B .q1) (A .q2) (B .q2))
+    (λ x. only (forked d x))
+    (λ n. cases (other-or (A .q1) (B .q1) (A .q3) (B .q3))
+    (λ x. let t = test-lt (A .q1) (B .q1) in only (looped d n x (t .so, t .thus)))
+    (λ m. only (asked d n m truly))))
+  where
+    truly : T reach ↔ T reach
+    truly = ((λ t. t), λ t. t)
+
+    only : {y : Bool} {c q : ℕ} → Answer A B (T reach) y c q → Answered A B reach
+    only {y} {c} {q} a = record {
+      says-yes = y;
+      comparisons = c;
+      questions = q;
+      the-answer = a;
+      no-other = λ y′ c′ q′ a′. answers-alike (same-labels A B) truly a′ a;
+    }

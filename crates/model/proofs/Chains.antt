@@ -1,20 +1,11 @@
 -- Chains of parents.
-use mathlib.Core.Path.{_≡_, refl, sym, ap, subst, _∙_}
-use mathlib.Core.Logic.{_≢_, _⊎_, inl, inr, ⊎-elim}
-use Prim.Native.Nat.{ℕ, zero, suc, _≤_, _<_, _+_}
+use mathlib.Core.Path.{_≡_, refl, sym, ap, _∙_}
+use mathlib.Core.Logic.{_≢_, _⊎_, inl, inr}
+use Prim.Native.Nat.{ℕ, zero, suc, _≤_, _<_}
 use native.Mathlib.Omega.{arith}
-use native.Mathlib.Decide.{ℕ-discrete, decLe, decLt}
+use native.Mathlib.Decide.{ℕ-discrete}
 use Rattle.model.specs.Forests.{Chain, stop, up, Falls, Split, Depth, at-zero, under}
-
-pub same-or : (i j : ℕ) → (i ≡ j) ⊎ (i ≢ j)
-same-or i j = elim (ℕ-discrete i j) [ yes e ↦ inl e | no f ↦ inr f ]
-
-pub less-or : (i j : ℕ) → (i < j) ⊎ (j ≤ i)
-less-or i j = elim (decLt i j) [ yes e ↦ inl e | no f ↦ inr (omega arith) ]
-
-pub zero-or : (q : ℕ) → (q ≡ 0) ⊎ (0 < q)
-zero-or zero = inl refl
-zero-or (suc q) = inr (omega arith)
+use Rattle.model.proofs.Cases.{cases, same-or}
 
 pub chain-join : {p : ℕ → ℕ} {i j k : ℕ} → Chain p i j → Chain p j k → Chain p i k
 chain-join stop d = d
@@ -26,10 +17,6 @@ chain-eq {p} {i} e = rw (← e) stop
 -- what is strictly above a sibling is above
 pub over : {p : ℕ → ℕ} {i s t d : ℕ} → Chain p i s → p s ≡ p t → Chain p (p t) d → Chain p i d
 over {p} {i} {s} {t} {d} c e k = chain-join c (up (rw e k))
-
-pub cases : {A B C : Type 0} → A ⊎ B → (A → C) → (B → C) → C
-cases (inl a) f g = f a
-cases (inr b) f g = g b
 
 -- strictly above goes through the parent
 pub chain-parent : {p : ℕ → ℕ} {i j : ℕ} → Chain p i j → (i ≡ j) ⊎ Chain p (p i) j
@@ -60,10 +47,7 @@ module _ {p : ℕ → ℕ} (f : Falls p) where
   chain-le stop = omega arith
   chain-le {i} (up c) = omega (arith, chain-le c, parent-le i)
 
-  pub chain-antisym : {i j : ℕ} → Chain p i j → Chain p j i → i ≡ j
-  chain-antisym c d = omega (arith, chain-le c, chain-le d)
-
-  pub strictly-not : {i j : ℕ} → 0 < i → Chain p (p i) j → j < i
+  strictly-not : {i j : ℕ} → 0 < i → Chain p (p i) j → j < i
   strictly-not {i} h c = omega (arith, chain-le c, f .falls i h)
 
   chain-dec-fuel : (m i j : ℕ) → i ≤ m → Dec (Chain p i j)
@@ -92,22 +76,20 @@ module _ {p : ℕ → ℕ} (f : Falls p) where
 
   -- no two children of one parent stand in one chain
   pub no-rung-twice : {i s t : ℕ} → Chain p i s → Chain p i t → 0 < s → 0 < t → p s ≡ p t → s ≡ t
-  no-rung-twice {i} {s} {t} c d hs ht e = ⊎-elim
-      (λ x. ⊎-elim (λ y. y) (λ y. absurd (omega (arith, strictly-not ht (rw e at y)))) (chain-parent x))
-      (λ x. ⊎-elim (λ y. sym y) (λ y. absurd (omega (arith, strictly-not hs (rw (← e) at y)))) (chain-parent x))
-      (comparable c d)
+  no-rung-twice {i} {s} {t} c d hs ht e = cases (comparable c d)
+      (λ x. cases (chain-parent x) (λ y. y) (λ y. absurd (omega (arith, strictly-not ht (rw e at y)))))
+      (λ x. cases (chain-parent x) (λ y. sym y) (λ y. absurd (omega (arith, strictly-not hs (rw (← e) at y)))))
 
   pub split-flip : {i j s t : ℕ} → Split p i j s t → Split p j i t s
   split-flip x = record { left = x .right; right = x .left; left-pos = x .right-pos; right-pos = x .left-pos; same-parent = sym (x .same-parent) }
 
   -- where the left children of two splits differ, the upper stands in both chains
   one-left-le : {i j s t s′ t′ : ℕ} → Split p i j s t → s ≢ t → Split p i j s′ t′ → Chain p s′ s → s′ ≡ s
-  one-left-le x d y c = ⊎-elim (λ e. e)
+  one-left-le x d y c = cases (chain-parent c) (λ e. e)
       (λ u. absurd (d (no-rung-twice (chain-join (y .right) (up (rw (y .same-parent) at u))) (x .right) (x .left-pos) (x .right-pos) (x .same-parent))))
-      (chain-parent c)
 
   pub one-left : {i j s t s′ t′ : ℕ} → Split p i j s t → s ≢ t → Split p i j s′ t′ → s′ ≢ t′ → s ≡ s′
-  one-left x d y d′ = ⊎-elim (λ c. one-left-le y d′ x c) (λ c. sym (one-left-le x d y c)) (comparable (x .left) (y .left))
+  one-left x d y d′ = cases (comparable (x .left) (y .left)) (λ c. one-left-le y d′ x c) (λ c. sym (one-left-le x d y c))
 
   pub one-right : {i j s t s′ t′ : ℕ} → Split p i j s t → s ≢ t → Split p i j s′ t′ → s′ ≢ t′ → t ≡ t′
   one-right {i} {j} {s} {t} {s′} {t′} x d y d′ =
@@ -116,10 +98,9 @@ module _ {p : ℕ → ℕ} (f : Falls p) where
 
   -- a split below a common copy: where d is in the chain of i, and t is in the chain of j below it ..
   pub above-split : {i j s t d : ℕ} → Split p i j s t → Chain p j d → Chain p d t ⊎ Chain p i d
-  above-split x c = ⊎-elim
-      (λ u. ⊎-elim (λ e. inl (chain-eq (sym e))) (λ w. inr (chain-join (x .left) (up (rw (← x .same-parent) at w)))) (chain-parent u))
+  above-split x c = cases (comparable (x .right) c)
+      (λ u. cases (chain-parent u) (λ e. inl (chain-eq (sym e))) (λ w. inr (chain-join (x .left) (up (rw (← x .same-parent) at w)))))
       (λ u. inl u)
-      (comparable (x .right) c)
 
   pub depth-of : (k : ℕ) → (d : ℕ) × Depth p k d
   depth-of k = go k k (omega arith)

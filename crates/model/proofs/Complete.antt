@@ -1,19 +1,20 @@
 -- Rel gives a path of derived edges.
-use mathlib.Core.Path.{_≡_, refl, sym, ap, subst, _∙_}
-use mathlib.Core.Logic.{_≢_, _⊎_, inl, inr, ⊎-elim}
-use Prim.Native.Nat.{ℕ, zero, suc, _≤_, _<_, _+_}
+use mathlib.Core.Path.{_≡_, sym, ap, subst, _∙_}
+use mathlib.Core.Logic.{_≢_, _⊎_, inl, inr}
+use Prim.Native.Nat.{ℕ, _<_}
 use native.Mathlib.Omega.{arith}
 use Rattle.model.specs.Paths.{Path*, here, step}
-use Rattle.model.specs.Forests.{Chain, stop, up, Split}
+use Rattle.model.specs.Forests.{Chain, stop, up}
 use Rattle.model.specs.Specifications.{Spec, Edge, Domain, Loop-rule, Sealed}
-use Rattle.model.specs.Runs.{Run, Conforms, Mate, Next, First, Last, Firsts, Lasts, Plain, Back, Derived, Farthest}
+use Rattle.model.specs.Runs.{Run, Conforms, Mate, Next, Firsts, Derived, Farthest}
 use Rattle.model.specs.Relating.{Apart, Earlier, Rel}
-use Rattle.model.proofs.Chains.{same-or, less-or, cases, over, chain-le, chain-eq, chain-parent, chain-dec, chain-join, comparable, no-rung-twice, above-split, one-left, one-right, split-flip}
+use Rattle.model.proofs.Cases.{cases, same-or, less-or}
+use Rattle.model.proofs.Chains.{over, chain-le, chain-parent, chain-dec, chain-join, no-rung-twice, above-split, one-left, one-right, split-flip}
 use Rattle.model.proofs.Paths.{path-join, path-one, path-last, walk}
-use Rattle.model.proofs.Sealing.{no-cycle, in-or, enters, from-source, to-sink, no-circle, farthest-of, far-chain}
-use Rattle.model.proofs.Copies.{chain-range, maps, unique, agree, same-or-apart, in-copy, copy-in, block-pos, copy-range, next-pos, earlier, apart, never-apart}
-use Rattle.model.proofs.Groups.{Turn, firsts-or-turn, first-or-next, mate-turn, mate-self, mate-join}
-use Rattle.model.proofs.Descend.{Lands, Fine, descend, follow}
+use Rattle.model.proofs.Sealing.{no-cycle, enters, from-source, to-sink, no-circle, farthest-of, far-chain}
+use Rattle.model.proofs.Copies.{chain-range, maps, agree, same-or-apart, in-copy, copy-in, copy-range, next-pos, earlier, apart}
+use Rattle.model.proofs.Groups.{Turn, firsts-or-turn, first-or-next, mate-join}
+use Rattle.model.proofs.Descend.{Lands, descend, follow}
 use Rattle.model.proofs.Sound.{loop-of, sound}
 
 module _ {s : Spec} {r : Run} (S : Sealed s) (C : Conforms s r) where

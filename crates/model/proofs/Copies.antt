@@ -1,14 +1,14 @@
 -- Copies, their blocks and their groups.
-use mathlib.Core.Path.{_≡_, refl, sym, ap, subst, _∙_}
-use mathlib.Core.Logic.{_≢_, _⊎_, inl, inr, ⊎-elim}
-use Prim.Native.Nat.{ℕ, zero, suc, _≤_, _<_, _+_}
+use mathlib.Core.Path.{_≡_, refl, sym, ap, _∙_}
+use mathlib.Core.Logic.{_≢_, _⊎_, inl, inr}
+use Prim.Native.Nat.{ℕ, zero, suc, _≤_, _<_}
 use native.Mathlib.Omega.{arith}
-use Rattle.model.specs.Paths.{Path*, here, step}
-use Rattle.model.specs.Forests.{Chain, stop, up, Split}
-use Rattle.model.specs.Specifications.{Spec, Edge, Domain, Sealed}
-use Rattle.model.specs.Runs.{Run, Conforms, Mate, Next, First, Last, Firsts, Lasts}
+use Rattle.model.specs.Forests.{Chain, stop, up}
+use Rattle.model.specs.Specifications.{Spec, Domain, Sealed}
+use Rattle.model.specs.Runs.{Run, Conforms, Next}
 use Rattle.model.specs.Relating.{Apart, Earlier}
-use Rattle.model.proofs.Chains.{same-or, zero-or, less-or, chain-le, chain-eq, chain-parent, chain-dec, chain-join, comparable, no-rung-twice, strictly-not}
+use Rattle.model.proofs.Cases.{cases, same-or, zero-or}
+use Rattle.model.proofs.Chains.{chain-le, chain-parent, chain-join, comparable, no-rung-twice}
 
 module _ {s : Spec} {r : Run} (S : Sealed s) (C : Conforms s r) where
   pub chain-range : {i j : ℕ} → i < r .c → Chain (r .parent) i j → j < r .c
@@ -28,14 +28,14 @@ module _ {s : Spec} {r : Run} (S : Sealed s) (C : Conforms s r) where
   copy-of {i} h c = copy-go c i h refl
 
   pub pos-of-block : {q : ℕ} → 0 < r .block q → 0 < q
-  pos-of-block {q} h = ⊎-elim (λ e. absurd (omega (arith, ap (r .block) e, C .block-zero))) (λ x. x) (zero-or q)
+  pos-of-block {q} h = cases (zero-or q) (λ e. absurd (omega (arith, ap (r .block) e, C .block-zero))) (λ x. x)
 
   pub block-pos : {q : ℕ} → 0 < q → q < r .c → 0 < r .block q
   block-pos {q} h l = C .block-range q h l .0
 
   unique-le : (q : ℕ) {q′ : ℕ} → q < r .c → Chain (r .parent) q q′ → r .block q ≡ r .block q′ → q ≡ q′
   unique-le zero h c e = omega (arith, chain-le (C .tree) c)
-  unique-le (suc q) h c e = ⊎-elim (λ x. x)
+  unique-le (suc q) h c e = cases (chain-parent c) (λ x. x)
       (λ x. absurd (omega (
         arith,
         S .ranges .nest .falls (r .block (suc q)) (block-pos (omega arith) h),
@@ -43,11 +43,10 @@ module _ {s : Spec} {r : Run} (S : Sealed s) (C : Conforms s r) where
         C .follows (suc q) h,
         chain-le (S .ranges .nest) (maps (chain-range h (up stop)) x),
       )))
-      (chain-parent c)
 
   -- a chain has one copy of a block
   pub unique : {i q q′ : ℕ} → i < r .c → Chain (r .parent) i q → Chain (r .parent) i q′ → r .block q ≡ r .block q′ → q ≡ q′
-  unique h c d e = ⊎-elim (λ x. unique-le _ (chain-range h c) x e) (λ x. sym (unique-le _ (chain-range h d) x (sym e))) (comparable c d)
+  unique h c d e = cases (comparable c d) (λ x. unique-le _ (chain-range h c) x e) (λ x. sym (unique-le _ (chain-range h d) x (sym e)))
 
   pub agree : {i d q : ℕ} → i < r .c → Chain (r .parent) i d → Chain (r .parent) i q → Chain (s .above) (r .block d) (r .block q) → Chain (r .parent) d q
   agree h cd cq b =
@@ -56,16 +55,14 @@ module _ {s : Spec} {r : Run} (S : Sealed s) (C : Conforms s r) where
 
   apart-go : (m : ℕ) {i j q q′ : ℕ} → q ≤ m → i < r .c → j < r .c → Chain (r .parent) i q → Chain (r .parent) j q′ → r .block q ≡ r .block q′ → (q ≡ q′) ⊎ Apart r i j
   apart-go zero {i} {j} {q} {q′} l hi hj c d e = let z : q ≡ 0 = omega arith in
-      inl (z ∙ sym (⊎-elim (λ x. x) (λ x. absurd (omega (arith, block-pos x (chain-range hj d), e, ap (r .block) z, C .block-zero))) (zero-or q′)))
-  apart-go (suc m) {i} {j} {q} {q′} l hi hj c d e = ⊎-elim
-      (λ z. inl (z ∙ sym (⊎-elim (λ x. x) (λ x. absurd (omega (arith, block-pos x (chain-range hj d), e, ap (r .block) z, C .block-zero))) (zero-or q′))))
+      inl (z ∙ sym (cases (zero-or q′) (λ x. x) (λ x. absurd (omega (arith, block-pos x (chain-range hj d), e, ap (r .block) z, C .block-zero)))))
+  apart-go (suc m) {i} {j} {q} {q′} l hi hj c d e = cases (zero-or q)
+      (λ z. inl (z ∙ sym (cases (zero-or q′) (λ x. x) (λ x. absurd (omega (arith, block-pos x (chain-range hj d), e, ap (r .block) z, C .block-zero))))))
       (λ z. let z′ : 0 < q′ = pos-of-block (omega (arith, block-pos z (chain-range hi c), e)) in
-      ⊎-elim
-      (λ x. ⊎-elim inl (λ y. inr (record { s = q; t = q′; split = record { left = c; right = d; left-pos = z; right-pos = z′; same-parent = x }; same-block = e; differ = y })) (same-or q q′))
-      inr
-      (apart-go m (omega (arith, C .tree .falls q z)) hi hj (chain-join c (up stop)) (chain-join d (up stop))
-      (C .follows q (chain-range hi c) ∙ ap (s .above) e ∙ sym (C .follows q′ (chain-range hj d)))))
-      (zero-or q)
+      cases (apart-go m (omega (arith, C .tree .falls q z)) hi hj (chain-join c (up stop)) (chain-join d (up stop))
+      (C .follows q (chain-range hi c) ∙ ap (s .above) e ∙ sym (C .follows q′ (chain-range hj d))))
+      (λ x. cases (same-or q q′) inl (λ y. inr (record { s = q; t = q′; split = record { left = c; right = d; left-pos = z; right-pos = z′; same-parent = x }; same-block = e; differ = y })))
+      inr)
 
   pub same-or-apart : {i j q q′ : ℕ} → i < r .c → j < r .c → Chain (r .parent) i q → Chain (r .parent) j q′ → r .block q ≡ r .block q′ → (q ≡ q′) ⊎ Apart r i j
   same-or-apart {q = q} = apart-go q (omega arith)

@@ -1,15 +1,14 @@
 -- Every word of the theorem has a test.
-use mathlib.Core.Path.{_≡_, refl, sym, ap, subst, _∙_}
-use mathlib.Core.Logic.{_≢_, _⊎_, _↔_, inl, inr}
 use mathlib.Core.Bool.{Bool, true, false}
-use Prim.Native.Nat.{ℕ, zero, suc, _≤_, _<_, _+_}
+use Prim.Native.Nat.{ℕ, suc}
 use native.Mathlib.Omega.{arith}
-use lib.Dec.{T}
-use Rattle.model.specs.Forests.{Chain, stop, up, Falls}
-use Rattle.model.specs.Specifications.{Spec, Edge, Domain}
+use Rattle.model.specs.Forests.{Falls}
+use Rattle.model.specs.Specifications.{Spec, Domain}
+use Rattle.model.specs.Orders.{Turned, Sooner, Before, Position}
 use Rattle.model.specs.Runs.{Run, Mate, First, Last, Next, Lasts, Firsts, Farthest, Plain, Back, Derived}
-use Rattle.model.proofs.Chains.{cases, chain-le, depth-of, depth-le, depth-chain}
-use Rattle.model.proofs.Tests.{Test, by-test, test-eq, test-le, test-lt, test-bool, test-and, test-or, test-not, test-imp, test-as, test-all, test-any, test-chain}
+use Rattle.model.proofs.Counts.{count, count-is, count-iff}
+use Rattle.model.proofs.Chains.{chain-le, depth-of, depth-le, depth-chain}
+use Rattle.model.proofs.Tests.{Test, test-eq, test-le, test-lt, test-bool, test-and, test-or, test-not, test-imp, test-as, test-all, test-any, test-chain}
 
 module _ (r : Run) where
   abbrev pub test-mate : (q j : ℕ) → Test (Mate r q j)
@@ -79,3 +78,36 @@ module _ (s : Spec) (r : Run) (nest : Falls (s .above)) (tree : Falls (r .parent
       (λ h. record { tail-range = h .0 .0; head-range = h .0 .1; way = h .1 })
       (λ d. ((d .tail-range, d .head-range), d .way))
       (test-and (test-and (test-lt u (r .v)) (test-lt w (r .v))) (test-or (test-plain u w) (test-back u w)))
+
+abbrev pub test-turned : (b : Bool) (s t : ℕ) → Test (Turned b s t)
+test-turned true s t = test-lt t s
+test-turned false s t = test-lt s t
+
+module _ (sp : Spec) (r : Run) (o : ℕ → Bool) (tree : Falls (r .parent)) where
+  abbrev pub test-sooner : (s t : ℕ) → Test (Sooner sp r o s t)
+  test-sooner s t = test-or (test-lt (r .block s) (r .block t)) (test-and (test-eq (r .block s) (r .block t)) (test-turned (o (sp .kind (r .block s))) s t))
+
+  abbrev pub test-before : (i j : ℕ) → Test (Before sp r o i j)
+  test-before i j = test-or (test-and (test-chain tree j i) (test-not (test-eq i j)))
+      (test-as
+      (λ h. let x = h .2 .2 in record {
+        bs = h .0;
+        bt = h .2 .0;
+        sooner = x .1;
+        bsplit = record { left = x .0 .0 .0; right = x .0 .0 .1; left-pos = x .0 .1 .0; right-pos = x .0 .1 .1 .0; same-parent = x .0 .1 .1 .1 };
+      })
+      (λ b. (
+        b .bs,
+        omega (arith, chain-le tree (b .bsplit .left)),
+        (
+          b .bt,
+          omega (arith, chain-le tree (b .bsplit .right)),
+          (((b .bsplit .left, b .bsplit .right), (b .bsplit .left-pos, (b .bsplit .right-pos, b .bsplit .same-parent))), b .sooner),
+        ),
+      ))
+      (test-any (suc i) (λ s. test-any (suc j) (λ t. test-and
+      (test-and (test-and (test-chain tree i s) (test-chain tree j t)) (test-and (test-lt 0 s) (test-and (test-lt 0 t) (test-eq (r .parent s) (r .parent t)))))
+      (test-sooner s t)))))
+
+  pub position-at : (i : ℕ) → Position sp r o i (count (r .c) (λ j. test-before j i .bit))
+  position-at i = count-iff (λ j l. test-before j i .so) (λ j l. test-before j i .thus) (count-is (r .c) (λ j. test-before j i .bit))

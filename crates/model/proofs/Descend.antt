@@ -1,16 +1,16 @@
 -- A step below a given copy with a given origin.
-use mathlib.Core.Path.{_≡_, refl, sym, ap, subst, _∙_}
-use mathlib.Core.Logic.{_≢_, _⊎_, inl, inr, ⊎-elim}
+use mathlib.Core.Path.{_≡_, refl, sym, ap, _∙_}
+use mathlib.Core.Logic.{_⊎_, inl, inr}
 use Prim.Native.Nat.{ℕ, zero, suc, _≤_, _<_, _+_}
 use native.Mathlib.Omega.{arith}
-use Rattle.model.specs.Paths.{Path*, here, step}
-use Rattle.model.specs.Forests.{Chain, stop, up, Split}
-use Rattle.model.specs.Specifications.{Spec, Edge, Domain, Loop-rule, Sealed}
-use Rattle.model.specs.Runs.{Run, Conforms, Mate, Next, First, Last, Firsts, Lasts}
+use Rattle.model.specs.Forests.{Chain, up}
+use Rattle.model.specs.Specifications.{Spec, Domain, Sealed}
+use Rattle.model.specs.Runs.{Run, Conforms, Last, Lasts}
 use Rattle.model.specs.Relating.{Apart, Earlier}
-use Rattle.model.proofs.Chains.{same-or, zero-or, cases, over, chain-le, chain-eq, chain-parent, chain-child, chain-dec, chain-join, comparable, no-rung-twice, above-split}
+use Rattle.model.proofs.Cases.{cases, same-or, zero-or}
+use Rattle.model.proofs.Chains.{chain-le, chain-eq, chain-parent, chain-child, chain-join, comparable, no-rung-twice, above-split}
 use Rattle.model.proofs.Sealing.{in-range}
-use Rattle.model.proofs.Copies.{chain-range, maps, unique, agree, block-pos, copy-range, next-pos, earlier, apart}
+use Rattle.model.proofs.Copies.{chain-range, earlier}
 use Rattle.model.proofs.Groups.{last-of, lasts-self, mate-turn}
 
 -- the step v has origin y and stands below the copy d, by last loop copies

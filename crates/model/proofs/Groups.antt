@@ -1,12 +1,13 @@
 -- First, last and next in a group.
-use mathlib.Core.Path.{_≡_, refl, sym, ap, subst, _∙_}
-use mathlib.Core.Logic.{_≢_, _⊎_, inl, inr, ⊎-elim}
-use Prim.Native.Nat.{ℕ, zero, suc, _≤_, _<_, _+_}
+use mathlib.Core.Path.{_≡_, refl, sym, _∙_}
+use mathlib.Core.Logic.{_⊎_, inl, inr}
+use Prim.Native.Nat.{ℕ, zero, suc, _≤_, _<_}
 use native.Mathlib.Omega.{arith}
 use Rattle.model.specs.Forests.{Chain, stop, up, Falls}
 use Rattle.model.specs.Specifications.{Spec}
 use Rattle.model.specs.Runs.{Run, Mate, Next, First, Last, Firsts, Lasts}
-use Rattle.model.proofs.Chains.{same-or, zero-or, less-or, cases, chain-le, chain-eq, chain-parent, chain-join, comparable}
+use Rattle.model.proofs.Cases.{cases, same-or, less-or, zero-or}
+use Rattle.model.proofs.Chains.{chain-le, chain-parent}
 
 -- q is the lowest copy below d in the chain of i that is a loop's and not the first of its group
 pub record Turn (s : Spec) (r : Run) (i d : ℕ) : Type 0 where

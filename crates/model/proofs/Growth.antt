@@ -1,17 +1,18 @@
 -- A run that grew.
-use mathlib.Core.Path.{_≡_, refl, sym, ap, subst, _∙_}
-use mathlib.Core.Logic.{_≢_, _⊎_, _↔_, inl, inr}
+use mathlib.Core.Path.{_≡_, sym, ap, subst, _∙_}
+use mathlib.Core.Logic.{_↔_, inl, inr}
 use mathlib.Core.Bool.{Bool, true, false}
-use Prim.Native.Nat.{ℕ, zero, suc, _≤_, _<_, _+_}
+use Prim.Native.Nat.{ℕ, _<_}
 use native.Mathlib.Omega.{arith}
 use Rattle.model.specs.Paths.{Path*}
 use Rattle.model.specs.Forests.{Chain, stop, up, Split}
 use Rattle.model.specs.Specifications.{Edge, Spec, Sealed}
 use Rattle.model.specs.Runs.{Run, Conforms}
-use Rattle.model.specs.Orders.{order1, order2, order3, Turned, Sooner, Branch, Before, Position}
+use Rattle.model.specs.Orders.{order1, order2, order3, Turned, Before, Position}
 use Rattle.model.specs.Labels.{Label, Labelled}
-use Rattle.model.specs.Laws.{Grown, Alike, As}
-use Rattle.model.proofs.Chains.{cases, chain-eq}
+use Rattle.model.specs.Laws.{Grown}
+use Rattle.model.proofs.Answering.{Alike, As}
+use Rattle.model.proofs.Cases.{cases}
 use Rattle.model.proofs.Copies.{chain-range, block-pos, pos-of-block}
 use Rattle.model.proofs.Orders.{branch, before-never, before-join, before-total, position-less, position-back}
 

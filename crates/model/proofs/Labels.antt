@@ -1,19 +1,20 @@
 -- What the three positions tell.
 use mathlib.Core.Path.{_≡_, refl, sym, ap, subst, _∙_}
-use mathlib.Core.Logic.{_≢_, _⊎_, inl, inr}
-use mathlib.Core.Bool.{Bool, true, false}
-use Prim.Native.Nat.{ℕ, zero, suc, _≤_, _<_, _+_}
+use mathlib.Core.Logic.{_≢_, inl, inr}
+use mathlib.Core.Bool.{Bool}
+use Prim.Native.Nat.{ℕ, _<_}
 use native.Mathlib.Omega.{arith}
-use Rattle.model.specs.Paths.{Path*, here, step}
-use Rattle.model.specs.Forests.{Chain, stop, up, Split}
+use Rattle.model.specs.Paths.{Path*, step}
+use Rattle.model.specs.Forests.{Chain, Split}
 use Rattle.model.specs.Specifications.{Spec, Edge, Sealed}
 use Rattle.model.specs.Runs.{Run, Conforms, Derived}
 use Rattle.model.specs.Relating.{Apart, Earlier, Rel}
-use Rattle.model.specs.Orders.{order1, order2, order3, Turned, Sooner, Branch, Before, Position}
-use Rattle.model.specs.Labels.{Label, Labelled, Other, Yes, by-equal, by-loop, by-reach}
-use Rattle.model.proofs.Chains.{same-or, less-or, cases, chain-join, no-rung-twice, split-flip, one-left, one-right}
+use Rattle.model.specs.Orders.{order1, order2, order3, Turned, Before}
+use Rattle.model.specs.Labels.{Label, Labelled, Yes, by-equal, by-loop, by-reach}
+use Rattle.model.proofs.Cases.{cases, same-or, less-or}
+use Rattle.model.proofs.Chains.{chain-join, no-rung-twice, split-flip, one-left, one-right}
 use Rattle.model.proofs.Copies.{chain-range, block-pos, copy-range, earlier, never-apart}
-use Rattle.model.proofs.Orders.{meet, branch, position-less, position-same, position-copy, position-one}
+use Rattle.model.proofs.Orders.{meet, branch, position-less, position-same, position-copy, position-of, position-one}
 use Rattle.model.specs.Paths.{Path⁺}
 use Rattle.model.specs.Laws.{Listed}
 use Rattle.model.proofs.Paths.{path-map, path-last}
@@ -190,6 +191,14 @@ module _ {sp : Spec} {r : Run} (S : Sealed sp) (C : Conforms sp r) where
       (position-copy sp r order1 (C .tree) (r .context u) (r .context w) (A .q1) (C .context-range u hu) (C .context-range w hw) (a .at1) (b .at1))
       (sym (a .is-vertex) ∙ b .is-vertex)
 
+  -- the label that the positions of a step's context make
+  label-of : (u : ℕ) → u < r .v → (A : Label) × Labelled sp r u A
+  label-of u hu =
+      let place = λ (o : ℕ → Bool). position-of sp r o (C .tree) (r .context u) (C .context-range u hu) in (
+        record { q1 = place order1 .0; q2 = place order2 .0; q3 = place order3 .0; vertex = r .origin u },
+        record { at1 = place order1 .2; at2 = place order2 .2; at3 = place order3 .2; is-vertex = refl },
+      )
+
   same-label : {u : ℕ} {A B : Label} → Labelled sp r u A → Labelled sp r u B → A ≡ B
   same-label {u} {A} {B} a b =
       let e1 : A .q1 ≡ B .q1 = position-one sp r order1 (C .tree) (r .context u) (A .q1) (B .q1) (a .at1) (b .at1) in
@@ -197,6 +206,9 @@ module _ {sp : Spec} {r : Run} (S : Sealed sp) (C : Conforms sp r) where
       let e3 : A .q3 ≡ B .q3 = position-one sp r order3 (C .tree) (r .context u) (A .q3) (B .q3) (a .at3) (b .at3) in
       let e4 : A .vertex ≡ B .vertex = a .is-vertex ∙ sym (b .is-vertex) in
       λ i. record { q1 = e1 i; q2 = e2 i; q3 = e3 i; vertex = e4 i }
+
+  pub each-label : (u : ℕ) → u < r .v → (A : Label) × Labelled sp r u A × ((B : Label) → Labelled sp r u B → B ≡ A)
+  each-label u hu = let w = label-of u hu in (w .0, w .1, λ B b. same-label b (w .1))
 
   module _ {u w : ℕ} (hu : u < r .v) (hw : w < r .v) {A B : Label} (a : Labelled sp r u A) (b : Labelled sp r w B) where
     pub after-says : Path⁺ (Listed r) u w → (A ≢ B) × Yes A B (Path* (Edge sp) (A .vertex) (B .vertex))

@@ -6,13 +6,17 @@ use mathlib.Core.List.{List, [], _∷_, _++_}
 use Prim.Native.Nat.{ℕ, zero, suc, _≤_, _<_, _+_}
 use native.Mathlib.Omega.{arith}
 use lib.ListN.{length, getD}
-use Rattle.model.specs.Forests.{Chain, stop, up, Falls, Split}
+use Rattle.model.specs.Forests.{Chain, stop, up, Falls}
 use Rattle.model.specs.Specifications.{Spec}
 use Rattle.model.specs.Runs.{Run}
-use Rattle.model.specs.Orders.{Sooner, Before, Count, none, hit, miss, Position}
-use Rattle.model.specs.Listings.{Stands, Child, Children, Laid, nothing, copy, Listing, Written}
-use Rattle.model.proofs.Chains.{same-or, zero-or, less-or, cases, chain-le, chain-eq, chain-join, chain-child, above-zero}
-use Rattle.model.proofs.Orders.{sooner-never, sooner-join, sooner-total, branch, before-never, before-join, count-all, count-one, position-one}
+use Rattle.model.specs.Orders.{Sooner, Before, Position}
+use Rattle.model.specs.Listings.{Stands, Child, Children, Laid, nothing, copy, Listing}
+use Rattle.model.specs.Laws.{Written}
+use Rattle.model.proofs.Cases.{cases, same-or, less-or, zero-or}
+use Rattle.model.proofs.Chains.{chain-le, chain-eq, chain-join, chain-child, above-zero}
+use Rattle.model.proofs.Counts.{count-all, count-one, count-iff, count-places}
+use Rattle.model.proofs.Orders.{sooner-join, sooner-total, branch, before-never, before-join, position-one}
+use Rattle.std.proofs.shelf.Lists.{ext-getD}
 
 -- x is in the list
 data In (x : ℕ) : List ℕ → Type 0 where
@@ -72,37 +76,6 @@ places-rising [] f = empty
 places-rising (x ∷ l) f = more
     (λ y i. let w = in-place i in f 0 (suc (w .0)) x y (omega arith, refl) (omega (arith, w .1 .0), w .1 .1) (omega arith))
     (places-rising l (λ q q′ k k′ a b h. f (suc q) (suc q′) k k′ (omega (arith, a .0), a .1) (omega (arith, b .0), b .1) (omega arith)))
-
--- counting
-
-count-iff : {P Q : ℕ → Type 0} {n q : ℕ} → ((j : ℕ) → j < n → P j → Q j) → ((j : ℕ) → j < n → Q j → P j) → Count P n q → Count Q n q
-count-iff f g none = none
-count-iff {n = suc n} f g (hit p c) = hit (f n (omega arith) p) (count-iff (λ j l. f j (omega arith)) (λ j l. g j (omega arith)) c)
-count-iff {n = suc n} f g (miss p c) = miss (λ x. p (g n (omega arith) x)) (count-iff (λ j l. f j (omega arith)) (λ j l. g j (omega arith)) c)
-
--- one number more
-count-add : {P : ℕ → Type 0} {n q : ℕ} (x : ℕ) → x < n → (¬ (P x)) → Count P n q → Count (λ j. (j ≡ x) ⊎ P j) n (suc q)
-count-add x l g none = absurd (omega arith)
-count-add {P} {n = suc n} x l g (hit p c) = cases (same-or n x)
-    (λ e. absurd (g (subst P e p)))
-    (λ d. hit (inr p) (count-add x (omega arith) g c))
-count-add {P} {n = suc n} x l g (miss p c) = cases (same-or n x)
-    (λ e. hit (inl e) (count-iff (λ j l a. inr a) (λ j l a. cases a (λ e′. absurd (omega arith)) (λ b. b)) c))
-    (λ d. miss (λ a. cases a d p) (count-add x (omega arith) g c))
-
-count-empty : {P : ℕ → Type 0} (n : ℕ) → ((j : ℕ) → ¬ (P j)) → Count P n 0
-count-empty zero g = none
-count-empty (suc n) g = miss (g n) (count-empty n g)
-
--- numbers below n that all differ, one to each place below q: there are q of them
-count-places : (f : ℕ → ℕ) (n q : ℕ) → ((p : ℕ) → p < q → f p < n) → ((p p′ : ℕ) → p < p′ → p′ < q → f p ≢ f p′)
-    → Count (λ j. (p : ℕ) × (p < q) × (f p ≡ j)) n q
-count-places f n zero r d = count-empty n (λ j h. omega (arith, h .1))
-count-places f n (suc q) r d = count-iff
-    (λ j l a. cases a (λ e. (q, omega arith, sym e)) (λ h. (h .0, omega (arith, h .1), h .2)))
-    (λ j l h. cases (same-or (h .0) q) (λ e. inl (sym (h .2) ∙ ap f e)) (λ g. inr (h .0, omega (arith, h .1), h .2)))
-    (count-add (f q) (r q (omega arith)) (λ h. d (h .0) q (h .1) (omega arith) (h .2))
-    (count-places f n q (λ p l. r p (omega arith)) (λ p p′ l l′. d p p′ l (omega arith))))
 
 module _ (sp : Spec) (r : Run) (o : ℕ → Bool) (tree : Falls (r .parent)) where
   -- k comes sooner than k′, under one copy
@@ -196,17 +169,22 @@ module _ (sp : Spec) (r : Run) (o : ℕ → Bool) (tree : Falls (r .parent)) whe
             (λ e. absurd (before-never sp r o tree i (subst (λ z. Before sp r o z i) (sym (s .1) ∙ ap (λ p. getD l p 0) (sym e) ∙ h .1) b)))
             (λ d. absurd (before-never sp r o tree i (before-join sp r o tree i j i (place-before q p i j h s (omega arith)) b)))
 
-    pub place-is : (i q : ℕ) → i < r .c → Position sp r o i q ↔ Stands l q i
+    place-is : (i q : ℕ) → i < r .c → Position sp r o i q ↔ Stands l q i
     place-is i q h = (
       (λ a. let p = place-of i h in subst (λ z. Stands l z i) (position-one sp r o tree i (p .0) q (place-position i (p .0) (p .1)) a) (p .1)),
       place-position i q,
     )
 
-    pub listing-length : length l ≡ r .c
+    listing-length : length l ≡ r .c
     listing-length = count-one
         (count-iff (λ j lj a. tt) (λ j lj a. let p = place-of j lj in (p .0, p .1 .0, p .1 .1))
         (count-places (λ p. getD l p 0) (r .c) (length l) (λ p lp. place-range p (getD l p 0) (lp, refl)) places-differ))
         (count-all (r .c))
+
+  one-listing : {l l′ : List ℕ} → Listing sp r o l → Listing sp r o l′ → 0 < r .c → l ≡ l′
+  one-listing {l} {l′} w w′ h = ext-getD 0 l l′ (listing-length w h ∙ sym (listing-length w′ h)) λ q lq.
+      let a : Stands l q (getD l q 0) = (lq, refl) in
+      sym (place-is w′ h (getD l q 0) q (place-range w h q (getD l q 0) a) .0 (place-position w h (getD l q 0) q a) .1)
 
   -- writing an order out
 
@@ -300,12 +278,13 @@ module _ (sp : Spec) (r : Run) (o : ℕ → Bool) (tree : Falls (r .parent)) whe
   laid-of zero (i ∷ is) h = let a = h i first in absurd (omega (arith, a .0, a .1))
   laid-of (suc m) is h = laid-step m (laid-of m) is h
 
-  pub listing-of : 0 < r .c → (l : List ℕ) × Listing sp r o l
+  listing-of : 0 < r .c → (l : List ℕ) × Listing sp r o l
   listing-of h = laid-of (r .c) (0 ∷ []) (λ k a. cases (in-cons a) (λ e. (omega arith, omega arith)) (λ b. absurd (in-none b)))
 
 pub written : (s : Spec) (r : Run) (o : ℕ → Bool) → Falls (r .parent) → 0 < r .c → Written s r o
 written s r o tree h = record {
   some-listing = listing-of s r o tree h;
+  one-listing = λ l l′ w w′. one-listing s r o tree w w′ h;
   as-long = λ l w. listing-length s r o tree w h;
   position-place = λ l w. place-is s r o tree w h;
 }

@@ -7,8 +7,10 @@ use native.Mathlib.Omega.{arith}
 use Rattle.model.specs.Forests.{Chain, stop, up, Falls, Split}
 use Rattle.model.specs.Specifications.{Spec}
 use Rattle.model.specs.Runs.{Run}
-use Rattle.model.specs.Orders.{Turned, Sooner, Branch, Before, Count, none, hit, miss, Position}
-use Rattle.model.proofs.Chains.{same-or, zero-or, less-or, cases, over, chain-le, chain-eq, chain-parent, chain-child, chain-join, comparable, no-rung-twice, split-flip}
+use Rattle.model.specs.Orders.{Turned, Sooner, Before, Position}
+use Rattle.model.proofs.Counts.{count-some, count-all, count-one, count-lt}
+use Rattle.model.proofs.Cases.{cases, same-or, less-or, zero-or}
+use Rattle.model.proofs.Chains.{over, chain-le, chain-eq, chain-parent, chain-child, chain-join, comparable, no-rung-twice, split-flip}
 
 turned-never : (b : Bool) (s : ℕ) → Turned b s s → ⊥
 turned-never true s h = omega arith
@@ -51,11 +53,11 @@ module _ {p : ℕ → ℕ} (f : Falls p) where
   meet i j = meet-go (i + j) i j (omega arith)
 
 module _ (sp : Spec) (r : Run) (o : ℕ → Bool) where
-  pub sooner-never : {s t : ℕ} → s ≡ t → Sooner sp r o s t → ⊥
+  sooner-never : {s t : ℕ} → s ≡ t → Sooner sp r o s t → ⊥
   sooner-never e (inl h) = omega (arith, ap (r .block) e)
   sooner-never {s} {t} e (inr h) = turned-never (o (sp .kind (r .block s))) s (subst (λ x. Turned (o (sp .kind (r .block s))) s x) (sym e) (h .1))
 
-  pub turned-move : {a b : ℕ} (s t : ℕ) → a ≡ b → Turned (o (sp .kind a)) s t → Turned (o (sp .kind b)) s t
+  turned-move : {a b : ℕ} (s t : ℕ) → a ≡ b → Turned (o (sp .kind a)) s t → Turned (o (sp .kind b)) s t
   turned-move s t e h = subst (λ x. Turned (o (sp .kind x)) s t) e h
 
   pub sooner-join : {s t u : ℕ} → Sooner sp r o s t → Sooner sp r o t u → Sooner sp r o s u
@@ -115,31 +117,6 @@ module _ (sp : Spec) (r : Run) (o : ℕ → Bool) where
         (λ c. cases (chain-parent c)
         (λ e. meets (sym e))
         (λ c′. branch (record { left = x .left; right = over (y .right) (sym (y .same-parent)) c′; left-pos = x .left-pos; right-pos = x .right-pos; same-parent = x .same-parent }) (a .sooner)))
-
-count-some : (P : ℕ → Type 0) → ((j : ℕ) → P j ⊎ (¬ (P j))) → (n : ℕ) → (q : ℕ) × Count P n q
-count-some P d zero = (0, none)
-count-some P d (suc n) = let w = count-some P d n in cases (d n) (λ h. (suc (w .0), hit h (w .1))) (λ h. (w .0, miss h (w .1)))
-
-count-le : {P Q : ℕ → Type 0} {n q q′ : ℕ} → ((j : ℕ) → P j → Q j) → Count P n q → Count Q n q′ → q ≤ q′
-count-le f none none = omega arith
-count-le f (hit a c) (hit b d) = omega (arith, count-le f c d)
-count-le {n = suc n} f (hit a c) (miss b d) = absurd (b (f n a))
-count-le f (miss a c) (hit b d) = omega (arith, count-le f c d)
-count-le f (miss a c) (miss b d) = count-le f c d
-
-count-lt : {P Q : ℕ → Type 0} {n q q′ : ℕ} (x : ℕ) → ((j : ℕ) → P j → Q j) → x < n → (¬ (P x)) → Q x → Count P n q → Count Q n q′ → q < q′
-count-lt x f l g h none none = absurd (omega arith)
-count-lt {n = suc n} x f l g h (hit a c) (hit b d) = cases (same-or x n) (λ e. absurd (g (rw (← e) at a))) (λ e. omega (arith, count-lt x f (omega arith) g h c d))
-count-lt {n = suc n} x f l g h (hit a c) (miss b d) = absurd (b (f n a))
-count-lt x f l g h (miss a c) (hit b d) = omega (arith, count-le f c d)
-count-lt {n = suc n} x f l g h (miss a c) (miss b d) = cases (same-or x n) (λ e. absurd (b (rw e at h))) (λ e. count-lt x f (omega arith) g h c d)
-
-pub count-one : {P : ℕ → Type 0} {n q q′ : ℕ} → Count P n q → Count P n q′ → q ≡ q′
-count-one a b = omega (arith, count-le (λ j x. x) a b, count-le (λ j x. x) b a)
-
-pub count-all : (n : ℕ) → Count (λ j. Unit {0}) n n
-count-all zero = none
-count-all (suc n) = hit tt (count-all n)
 
 module _ (sp : Spec) (r : Run) (o : ℕ → Bool) (f : Falls (r .parent)) where
   before-or : (i j : ℕ) → Before sp r o j i ⊎ (¬ (Before sp r o j i))

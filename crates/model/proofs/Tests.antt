@@ -1,12 +1,13 @@
 -- Tests that compute, of bounded statements.
-use mathlib.Core.Path.{_≡_, refl, sym, ap, subst, _∙_}
-use mathlib.Core.Logic.{_≢_, _⊎_, _↔_, inl, inr}
+use mathlib.Core.Path.{_≡_, subst}
+use mathlib.Core.Logic.{_⊎_, inl, inr}
 use mathlib.Core.Bool.{Bool, true, false, _&&_, _||_, not}
-use Prim.Native.Nat.{ℕ, zero, suc, _≤_, _<_, _+_}
+use Prim.Native.Nat.{ℕ, zero, suc, _≤_, _<_}
 use native.Mathlib.Omega.{arith}
-use lib.Dec.{T, eqb, leb, ltb, leb→le, le→leb, eqb→eq, eqb-refl}
-use Rattle.model.specs.Forests.{Chain, stop, up, Falls}
-use Rattle.model.proofs.Chains.{same-or, cases, chain-le, chain-eq, chain-parent}
+use lib.Dec.{T, eqb, leb, leb→le, le→leb, eqb→eq, eqb-refl}
+use Rattle.model.specs.Forests.{Chain, up, Falls}
+use Rattle.model.proofs.Cases.{cases, same-or}
+use Rattle.model.proofs.Chains.{chain-le, chain-eq, chain-parent}
 
 pub eq→eqb : (a b : ℕ) → a ≡ b → T (eqb a b)
 eq→eqb a b e = subst (λ x. T (eqb a x)) e (eqb-refl a)

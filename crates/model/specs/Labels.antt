@@ -4,7 +4,8 @@ use mathlib.Core.Logic.{_≢_, _⊎_, _↔_}
 use mathlib.Core.Bool.{Bool, false}
 use Prim.Native.Nat.{ℕ, _<_}
 use lib.Dec.{T}
-use Rattle.model.specs.Specifications.{Spec}
+use Rattle.model.specs.Paths.{Path*}
+use Rattle.model.specs.Specifications.{Spec, Edge}
 use Rattle.model.specs.Runs.{Run}
 use Rattle.model.specs.Orders.{order1, order2, order3, Position}
 
@@ -23,6 +24,10 @@ pub record Labelled (sp : Spec) (r : Run) (u : ℕ) (A : Label) : Type 0 where
   pub at3 : Position sp r order3 (r .context u) (A .q3)
   pub is-vertex : A .vertex ≡ r .origin u
 
+-- what the skeleton question on the labels A and B asks: does a path of zero or more edges of the specification lead from A's vertex to B's
+abbrev pub Reaches : Spec → Label → Label → Type 0
+Reaches sp A B = Path* (Edge sp) (A .vertex) (B .vertex)
+
 -- b and b′ fall strictly the other way than a and a′
 abbrev pub Other : ℕ → ℕ → ℕ → ℕ → Type 0
 Other a a′ b b′ = ((a < a′) × (b′ < b)) ⊎ ((a′ < a) × (b < b′))
@@ -30,7 +35,7 @@ Other a a′ b b′ = ((a < a′) × (b′ < b)) ⊎ ((a′ < a) × (b < b′))
 -- The question rule, for labels A and B. Compare q1; if equal, put the skeleton question on the two vertices. Else compare q2; if it falls
 -- strictly the other way than q1, the answer is no. Else compare q3; if strictly the other way, the answer is yes exactly when A's q1 is
 -- the smaller. Else put the skeleton question. The answer is three things together: yes or no, comparisons made, skeleton questions put.
--- `Reach` is what the skeleton question asks: that a path of the specification leads from A's vertex to B's.
+-- `Reach` is what the skeleton question asks.
 pub data Answer (A B : Label) (Reach : Type 0) : Bool → ℕ → ℕ → Type 0 where
   equal : {yes′ : Bool} → A .q1 ≡ B .q1 → T yes′ ↔ Reach → Answer A B Reach yes′ 1 1
   forked : A .q1 ≢ B .q1 → Other (A .q1) (B .q1) (A .q2) (B .q2) → Answer A B Reach false 2 0

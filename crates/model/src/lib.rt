@@ -1,5 +1,4 @@
-ghost use Rattle.model.specs.Laws.{Path-law, Order-law, Label-law, Apart-law, After-law, Growth-law, Answer-law};
-ghost use Rattle.model.specs.Listings.{Listing-law};
+ghost use Rattle.model.specs.Laws.{Path-law, Order-law, Listing-law, One-label-law, Apart-law, Label-law, After-law, Rule-law, Answer-law, Growth-law};
 ghost use Rattle.model.specs.TwoRound.{Import-law};
 
 pub fn path_law_stands() -> u8
@@ -21,7 +20,7 @@ pub fn listing_law_stands() -> u8
 }
 
 pub fn label_law_stands() -> u8
-    ensures { λ _. ⌜ Label-law ⌝ ∗ ⌜ Apart-law ⌝ }
+    ensures { λ _. ⌜ One-label-law ⌝ ∗ ⌜ Apart-law ⌝ ∗ ⌜ Label-law ⌝ }
 {
     0
 }
@@ -45,7 +44,7 @@ pub fn import_law_stands() -> u8
 }
 
 pub fn answer_law_stands() -> u8
-    ensures { λ _. ⌜ Answer-law ⌝ }
+    ensures { λ _. ⌜ Rule-law ⌝ ∗ ⌜ Answer-law ⌝ }
 {
     0
 }
