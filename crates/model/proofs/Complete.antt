@@ -220,14 +220,14 @@ module _ {s : Spec} {r : Run} (S : Sealed s) (C : Conforms s r) where
       (λ p. pred-path hu hw (N .0) (p .1) (p .2))
 
   apart-flip : {i j : ℕ} → Apart r i j → Apart r j i
-  apart-flip A = record { s = A .t; t = A .s; split = split-flip (C .tree) (A .split); same-block = sym (A .same-block); differ = λ e. A .differ (sym e) }
+  apart-flip A = record { s = A .t; t = A .s; split = split-flip (A .split); same-block = sym (A .same-block); differ = λ e. A .differ (sym e) }
 
   earlier-apart : {i j : ℕ} → Earlier s r i j → Apart r i j
   earlier-apart E = record { s = E .es; t = E .et; split = E .esplit; same-block = E .eblock; differ = λ e. omega (arith, e, E .eless) }
 
   pub rel-antisym : {u w : ℕ} → u < r .v → w < r .v → Rel s r u w → Rel s r w u → u ≡ w
   rel-antisym hu hw (inl E) (inl F) =
-      let x = split-flip (C .tree) (F .esplit) in
+      let x = split-flip (F .esplit) in
       let d : E .es ≢ E .et = λ e. omega (arith, e, E .eless) in
       let d′ : F .et ≢ F .es = λ e. omega (arith, e, F .eless) in
       absurd (omega (arith, E .eless, F .eless, one-left (C .tree) (E .esplit) d x d′, one-right (C .tree) (E .esplit) d x d′))

@@ -61,7 +61,7 @@ module _ {sp : Spec} {r : Run} (S : Sealed sp) (C : Conforms sp r) where
     other-block g A = g (ap (r .block) (sym (one-left (C .tree) (A .split) (A .differ) x d)) ∙ A .same-block ∙ ap (r .block) (one-right (C .tree) (A .split) (A .differ) x d))
 
     back : Split (r .parent) j i t s
-    back = split-flip (C .tree) x
+    back = split-flip x
 
     forked : r .block s ≡ r .block t → sp .kind (r .block s) ≡ 1 → Pair sp r i j
     forked e k =
