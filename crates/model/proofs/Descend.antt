@@ -10,7 +10,7 @@ use Rattle.model.specs.Relating.{Apart, Earlier}
 use Rattle.model.proofs.Cases.{cases, same-or, zero-or}
 use Rattle.model.proofs.Chains.{chain-le, chain-eq, chain-parent, chain-child, chain-join, comparable, no-rung-twice, above-split}
 use Rattle.model.proofs.Sealing.{in-range}
-use Rattle.model.proofs.Copies.{chain-range, earlier}
+use Rattle.model.proofs.Copies.{chain-range, mates-earlier}
 use Rattle.model.proofs.Groups.{last-of, lasts-self, mate-turn}
 
 -- the step v has origin y and stands below the copy d, by last loop copies
@@ -134,7 +134,7 @@ module _ {s : Spec} {r : Run} (S : Sealed s) (C : Conforms s r) where
       let u = descend (b .0) y (b .1 .exists) hy (rw (b .1 .one-block ∙ e) (w .way-in)) in (
         u .0,
         lower (b .1 .one-parent ∙ q .2) (λ k′. b .2) (u .1),
-        inr (earlier S C (q .1) (u .1 .land-below) z (sym (b .1 .one-parent)) (sym (b .1 .one-block)) (omega (arith, x, b .2 (q .0) (mate-turn hq z (b .1)))) (ap (s .kind) e ∙ k)),
+        inr (mates-earlier (q .1) (u .1 .land-below) z (b .1) (omega (arith, x, b .2 (q .0) (mate-turn hq z (b .1)))) (ap (s .kind) e ∙ k)),
       ))))
       (λ g. fresh (λ q′ c z′ f b. g (ap (r .block) (no-rung-twice (C .tree) (q .1) c z z′ (q .2 ∙ sym f)) ∙ b)))))
     where
