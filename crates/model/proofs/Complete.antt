@@ -1,4 +1,5 @@
--- Rel gives a path of derived edges.
+-- Where the relation of contexts and origins holds, a path of derived edges leads: every step but u itself to which u led has a predecessor
+-- to which u led, and a walk back along predecessors ends. With the other direction, both hold of the edges that a conforming run lists.
 use mathlib.Core.Path.{_≡_, sym, ap, subst, _∙_}
 use mathlib.Core.Logic.{_≢_, _⊎_, inl, inr}
 use Prim.Native.Nat.{ℕ, _<_}
@@ -8,17 +9,18 @@ use Rattle.model.specs.Forests.{Chain, stop, up}
 use Rattle.model.specs.Specifications.{Spec, Edge, Domain, Loop-rule, Sealed}
 use Rattle.model.specs.Runs.{Run, Conforms, Mate, Next, Firsts, Derived, Farthest}
 use Rattle.model.specs.Relating.{Apart, Earlier, Rel}
+use Rattle.model.specs.Laws.{Listed}
 use Rattle.model.proofs.Cases.{cases, same-or, less-or}
-use Rattle.model.proofs.Chains.{over, chain-le, chain-parent, chain-dec, chain-join, no-rung-twice, above-split, one-left, one-right, split-flip}
-use Rattle.model.proofs.Paths.{path-join, path-one, path-last, walk}
+use Rattle.model.proofs.Chains.{over, chain-le, chain-parent, chain-dec, chain-join, above-split, one-left, one-right, split-flip}
+use Rattle.model.proofs.Paths.{path-join, path-one, path-last, path-map, walk}
 use Rattle.model.proofs.Sealing.{no-cycle, enters, from-source, to-sink, no-circle, farthest-of, far-chain}
-use Rattle.model.proofs.Copies.{chain-range, maps, agree, same-or-apart, in-copy, copy-in, copy-range, next-pos, apart-flip, apart-as, earlier-apart, earlier-as, mates-apart, mates-earlier}
+use Rattle.model.proofs.Copies.{chain-range, maps, agree, same-or-apart, in-copy, copy-in, copy-range, next-pos, apart-flip, apart-as, earlier-apart, earlier-as, earlier-next, never-apart, mates-apart, mates-earlier}
 use Rattle.model.proofs.Groups.{Turn, firsts-or-turn, first-or-next, mate-turn, mate-join}
 use Rattle.model.proofs.Descend.{Lands, descend, follow}
 use Rattle.model.proofs.Sound.{loop-of, sound}
 
 module _ {s : Spec} {r : Run} (S : Sealed s) (C : Conforms s r) where
-  -- the copy of the farthest block that holds z′ and the origin of w, in w's chain
+  -- the copy, in w's chain, of the block farthest from 0 that holds z′ and the origin of w
   record Meets (w z′ : ℕ) : Type 0 where
     m-copy : ℕ
     m-in : Chain (r .parent) (r .context w) m-copy
@@ -35,7 +37,8 @@ module _ {s : Spec} {r : Run} (S : Sealed s) (C : Conforms s r) where
   meets-down {w} {z′} hw M hz = descend S C (M .m-copy) z′ (chain-range S C (C .context-range w hw) (M .m-in)) hz (M .m-far .holds-x)
 
   -- a copy in w's chain of a block that holds z′ too
-  meets-above : {w z′ t : ℕ} → w < r .v → (M : Meets w z′) → Chain (r .parent) (r .context w) t → Domain s (r .block t) z′ → Chain (r .parent) (M .m-copy) t
+  meets-above : {w z′ t : ℕ} → w < r .v → (M : Meets w z′) → Chain (r .parent) (r .context w) t → Domain s (r .block t) z′
+      → Chain (r .parent) (M .m-copy) t
   meets-above {w} {z′} {t} hw M c i = agree S C (C .context-range w hw) (M .m-in) c (far-chain S (M .m-far) (r .block t) i (copy-in S C hw c))
 
   turn-pos : {i d : ℕ} (t : Turn s r i d) → 0 < t .q
@@ -48,13 +51,16 @@ module _ {s : Spec} {r : Run} (S : Sealed s) (C : Conforms s r) where
   turn-block t = copy-range S C (t .turn-next .mate .exists) (turn-pos t)
 
   -- an edge from z′ comes into the turn from outside
-  turn-source : {w z′ : ℕ} → w < r .v → (M : Meets w z′) → Edge s z′ (r .origin w) → (t : Turn s r (r .context w) (M .m-copy)) → r .origin w ≡ s .source (r .block (t .q))
+  turn-source : {w z′ : ℕ} → w < r .v → (M : Meets w z′) → Edge s z′ (r .origin w) → (t : Turn s r (r .context w) (M .m-copy))
+      → r .origin w ≡ s .source (r .block (t .q))
   turn-source {w} {z′} hw M e t =
       enters S (turn-rule t) e
       (λ i. omega (arith, chain-le (C .tree) (meets-above hw M (t .turn-in) i), chain-le (C .tree) (t .turn-above), C .tree .falls (t .q) (turn-pos t)))
       (copy-in S C hw (t .turn-in))
 
-  plain-edge : {w z′ v : ℕ} → w < r .v → (M : Meets w z′) → Edge s z′ (r .origin w) → Firsts s r (r .context w) (M .m-copy) → Lands s r (M .m-copy) z′ v → Derived s r v w
+  -- the edge of the first kind from a step below the common copy
+  plain-edge : {w z′ v : ℕ} → w < r .v → (M : Meets w z′) → Edge s z′ (r .origin w) → Firsts s r (r .context w) (M .m-copy)
+      → Lands s r (M .m-copy) z′ v → Derived s r v w
   plain-edge {w} {z′} {v} hw M e f l = record {
     tail-range = l .land-range;
     head-range = hw;
@@ -69,8 +75,9 @@ module _ {s : Spec} {r : Run} (S : Sealed s) (C : Conforms s r) where
     });
   }
 
-  back-edge : {w p q v : ℕ} → w < r .v → Chain (r .parent) (r .context w) q → s .kind (r .block q) ≡ 2 → Firsts s r (r .context w) q → Next r p q → r .origin w ≡ s .source (r .block q)
-      → Lands s r p (s .sink (r .block q)) v → Derived s r v w
+  -- the edge of the second kind from a step at the end of the turn before
+  back-edge : {w p q v : ℕ} → w < r .v → Chain (r .parent) (r .context w) q → s .kind (r .block q) ≡ 2 → Firsts s r (r .context w) q
+      → Next r p q → r .origin w ≡ s .source (r .block q) → Lands s r p (s .sink (r .block q)) v → Derived s r v w
   back-edge {w} {p} {q} {v} hw c k f n e l = record {
     tail-range = l .land-range;
     head-range = hw;
@@ -274,11 +281,13 @@ module _ {s : Spec} {r : Run} (S : Sealed s) (C : Conforms s r) where
               (λ c′. f (apart-as A (A .split .left) (over (T .turn-in) (n .mate .one-parent) c′))))
               (λ c. f (mates-apart c (T .turn-in) (next-pos S C n) (n .mate) (λ x. omega (arith, x, n .later))))
 
+  -- steps with one origin that are not apart are one step
   same-context : {u w : ℕ} → u < r .v → w < r .v → (¬ (Apart r (r .context u) (r .context w))) → r .origin u ≡ r .origin w → u ≡ w
   same-context {u} {w} hu hw f e = cases
       (same-or-apart S C (C .context-range u hu) (C .context-range w hw) stop stop (sym (C .at-home u hu) ∙ ap (s .home) e ∙ C .at-home w hw))
       (λ x. C .only-step u w hu hw x e) (λ A. absurd (f A))
 
+  -- a step to which u led is u, or has a predecessor to which u led
   predecessor : {u w : ℕ} → u < r .v → w < r .v → u ≢ w → Rel s r u w → Before-it u w
   predecessor hu hw d (inl E) = pred-earlier hu hw E
   predecessor hu hw d (inr N) = cases (path-last (N .1))
@@ -298,14 +307,26 @@ module _ {s : Spec} {r : Run} (S : Sealed s) (C : Conforms s r) where
   no-self : {u w : ℕ} → u ≡ w → Derived s r u w → ⊥
   no-self {u} {w} e D = cases (D .way)
       (λ P. no-cycle S (r .origin u) (r .origin u) here (subst (λ x. Edge s (r .origin u) (r .origin x)) (sym e) (P .plain-edge)))
-      (λ B. omega (arith, B .next .later, no-rung-twice (C .tree) (subst (λ x. Chain (r .parent) (r .context x) (B .from)) e (B .back-u)) (B .back-w) (next-pos S C (B .next)) (B .next .mate .not-zero) (sym (B .next .mate .one-parent))))
+      (λ B. never-apart S C (earlier-apart (earlier-next S C (subst (λ x. Chain (r .parent) (r .context x) (B .from)) e (B .back-u))
+      (B .back-w) (B .next) (B .is-loop))))
 
   pub no-run-cycle : (x y : ℕ) → Path* (Derived s r) x y → Derived s r y x → ⊥
-  no-run-cycle x y p D = no-self (rel-antisym (D .tail-range) (D .head-range) (sound S C (D .tail-range) (path-one D)) (sound S C (D .head-range) p)) D
+  no-run-cycle x y p D =
+      no-self (rel-antisym (D .tail-range) (D .head-range) (sound S C (D .tail-range) (path-one D)) (sound S C (D .head-range) p)) D
 
-  pub complete : {u w : ℕ} → u < r .v → w < r .v → Rel s r u w → Path* (Derived s r) u w
+  complete : {u w : ℕ} → u < r .v → w < r .v → Rel s r u w → Path* (Derived s r) u w
   complete {u} {w} hu hw R =
       let z = walk (Derived s r) (λ x. (x < r .v) × Rel s r u x) (λ x. x ≡ u) (r .v) no-run-cycle (λ x a. a .0)
-      (λ x a. cases (same-or x u) inl (λ d. let b = predecessor hu (a .0) (λ e. d (sym e)) (a .1) in inr (b .0, b .1, (b .1 .tail-range, b .2))))
+      (λ x a. cases (same-or x u) inl (λ d.
+      let b = predecessor hu (a .0) (λ e. d (sym e)) (a .1) in
+      inr (b .0, b .1, (b .1 .tail-range, b .2))))
       w (hw, R) in
       rw (z .1) at (z .3)
+
+  -- and so for the edges that the run lists
+
+  pub sound-listed : {u w : ℕ} → u < r .v → Path* (Listed r) u w → Rel s r u w
+  sound-listed hu p = sound S C hu (path-map (λ a b e. C .exactly a b .0 e) p)
+
+  pub complete-listed : {u w : ℕ} → u < r .v → w < r .v → Rel s r u w → Path* (Listed r) u w
+  complete-listed hu hw R = path-map (λ a b e. C .exactly a b .1 e) (complete hu hw R)

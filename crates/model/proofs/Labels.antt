@@ -5,29 +5,20 @@ use mathlib.Core.Logic.{_≢_, inl, inr}
 use mathlib.Core.Bool.{Bool}
 use Prim.Native.Nat.{ℕ, _<_}
 use native.Mathlib.Omega.{arith}
-use Rattle.model.specs.Paths.{Path*, step}
+use Rattle.model.specs.Paths.{Path*, Path⁺, step}
 use Rattle.model.specs.Forests.{Chain, Split}
 use Rattle.model.specs.Specifications.{Spec, Edge, Sealed}
 use Rattle.model.specs.Runs.{Run, Conforms, Derived}
 use Rattle.model.specs.Relating.{Apart, Earlier, Rel}
 use Rattle.model.specs.Orders.{order1, order2, order3, Turned, Before}
 use Rattle.model.specs.Labels.{Label, Labelled, Yes, by-equal, by-loop, by-reach}
+use Rattle.model.specs.Laws.{Listed}
 use Rattle.model.proofs.Cases.{cases, same-or, less-or}
 use Rattle.model.proofs.Chains.{split-self, split-left, split-right, split-flip, one-left, one-right}
 use Rattle.model.proofs.Copies.{chain-range, block-pos, copy-range, earlier-apart, never-apart}
 use Rattle.model.proofs.Orders.{meet, branch, position-less, position-same, position-copy, position-of, position-one}
-use Rattle.model.specs.Paths.{Path⁺}
-use Rattle.model.specs.Laws.{Listed}
 use Rattle.model.proofs.Paths.{path-map, path-last}
-use Rattle.model.proofs.Sound.{sound}
-use Rattle.model.proofs.Complete.{complete, no-run-cycle}
-
-module _ {sp : Spec} {r : Run} (S : Sealed sp) (C : Conforms sp r) where
-  pub sound-listed : {u w : ℕ} → u < r .v → Path* (Listed r) u w → Rel sp r u w
-  sound-listed hu p = sound S C hu (path-map (λ a b e. C .exactly a b .0 e) p)
-
-  pub complete-listed : {u w : ℕ} → u < r .v → w < r .v → Rel sp r u w → Path* (Listed r) u w
-  complete-listed hu hw R = path-map (λ a b e. C .exactly a b .1 e) (complete S C hu hw R)
+use Rattle.model.proofs.Complete.{no-run-cycle, sound-listed, complete-listed}
 
 -- the kind of a group, as the order has it
 turned-at : (o : ℕ → Bool) {k l : ℕ} (s t : ℕ) → k ≡ l → Turned (o l) s t → Turned (o k) s t

@@ -9,7 +9,7 @@ use Rattle.model.specs.Specifications.{Spec}
 use Rattle.model.specs.Runs.{Run}
 use Rattle.model.specs.Orders.{Turned, Sooner, Before, Position}
 use Rattle.model.proofs.Counts.{count-some, count-all, count-one, count-lt}
-use Rattle.model.proofs.Cases.{cases, same-or, less-or, zero-or}
+use Rattle.model.proofs.Cases.{cases, same-or, less-or}
 use Rattle.model.proofs.Chains.{over, chain-le, chain-eq, chain-parent, chain-child, chain-join, child-pos, comparable, split-self, split-flip, split-right}
 
 -- within a group
