@@ -2,7 +2,7 @@
 -- to which u led, and a walk back along predecessors ends. With the other direction, both hold of the edges that a conforming run lists.
 use mathlib.Core.Path.{_≡_, sym, ap, subst, _∙_}
 use mathlib.Core.Logic.{_≢_, _⊎_, inl, inr}
-use Prim.Native.Nat.{ℕ, _<_}
+use Prim.Native.Nat.{ℕ, _≤_, _<_}
 use native.Mathlib.Omega.{arith}
 use Rattle.model.specs.Paths.{Path*, here, step}
 use Rattle.model.specs.Forests.{Chain, stop, up}
@@ -55,7 +55,9 @@ module _ {s : Spec} {r : Run} (S : Sealed s) (C : Conforms s r) where
       → r .origin w ≡ s .source (r .block (t .q))
   turn-source {w} {z′} hw M e t =
       enters S (turn-rule t) e
-      (λ i. omega (arith, chain-le (C .tree) (meets-above hw M (t .turn-in) i), chain-le (C .tree) (t .turn-above), C .tree .falls (t .q) (turn-pos t)))
+      (λ i.
+      let below : t .q ≤ M .m-copy = chain-le (C .tree) (meets-above hw M (t .turn-in) i) in
+      omega (arith, below, chain-le (C .tree) (t .turn-above), C .tree .falls (t .q) (turn-pos t)))
       (copy-in S C hw (t .turn-in))
 
   -- the edge of the first kind from a step below the common copy
@@ -101,9 +103,12 @@ module _ {s : Spec} {r : Run} (S : Sealed s) (C : Conforms s r) where
   turn-edge {w} {d} hw t e =
       let n = t .turn-next in
       let L = turn-rule t in
-      let u = descend S C (t .p) (s .sink (r .block (t .q))) (omega (arith, n .later, n .mate .exists)) (S .ranges .sink-range (r .block (t .q)) (turn-block t)) (subst (λ k. Domain s k (s .sink (r .block (t .q)))) (n .mate .one-block) (L .sink-in)) in
+      let end = s .sink (r .block (t .q)) in
+      let end-in : Domain s (r .block (t .p)) end = subst (λ k. Domain s k end) (n .mate .one-block) (L .sink-in) in
+      let u = descend S C (t .p) end (omega (arith, n .later, n .mate .exists)) (S .ranges .sink-range (r .block (t .q)) (turn-block t)) end-in in
       (u .0, back-edge hw (t .turn-in) (t .turn-loop) (t .turn-firsts) n e (u .1), u .1)
 
+  -- what is below the turn before is below d too
   turn-over : {i j d : ℕ} (t : Turn s r i d) → Chain (r .parent) j (t .p) → Chain (r .parent) j d
   turn-over t c = over c (sym (t .turn-next .mate .one-parent)) (t .turn-above)
 
@@ -199,7 +204,8 @@ module _ {s : Spec} {r : Run} (S : Sealed s) (C : Conforms s r) where
           -- u is in the turn before: follow its chain to the sink
           own-turn : E .es ≡ p → Before-it u w
           own-turn x =
-              let v = follow S C p (s .sink (r .block (E .et))) (r .context u) (C .context-range u hu) (rw x at (E .esplit .left)) sink-range sink-in in
+              let iu : Chain (r .parent) (r .context u) p = rw x at (E .esplit .left) in
+              let v = follow S C p (s .sink (r .block (E .et))) (r .context u) (C .context-range u hu) iu sink-range sink-in in
               let x-in : Domain s (r .block (E .et)) (r .origin u) = rw (E .eblock) at (copy-in S C hu (E .esplit .left)) in
               let path : Path* (Edge s) (r .origin u) (r .origin (v .0)) = rw (v .1 .land-origin) (to-sink S L (C .origin-range u hu) x-in) in
               (v .0, back-edge hw c k f n e (v .1), cases (v .2) (λ g. inr (g, path)) inl)
@@ -207,7 +213,8 @@ module _ {s : Spec} {r : Run} (S : Sealed s) (C : Conforms s r) where
           later-turn : E .es ≢ p → Before-it u w
           later-turn d =
               let v = descend S C p (s .sink (r .block (E .et))) hp sink-range sink-in in
-              let l : E .es < p = cases (less-or (E .es) p) (λ x. x) (λ x. absurd (omega (arith, E .eless, n .none-between (E .es) mp (omega arith)))) in
+              let l : E .es < p = cases (less-or (E .es) p) (λ x. x)
+              (λ x. absurd (omega (arith, E .eless, n .none-between (E .es) mp (omega arith)))) in
               let m : Mate r (E .es) p = mate-turn hp (next-pos S C n) mp in
               (v .0, back-edge hw c k f n e (v .1), inl (mates-earlier (E .esplit .left) (v .1 .land-below) (E .esplit .left-pos) m l (E .eloop)))
 

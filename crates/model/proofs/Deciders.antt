@@ -1,4 +1,5 @@
--- Every word of the theorem has a test.
+-- Tests that compute, of the words of the model: first, last and next, derived edges, and which copy comes before which. The worked example
+-- is checked by them.
 use mathlib.Core.Bool.{Bool, true, false}
 use Prim.Native.Nat.{ℕ, suc}
 use native.Mathlib.Omega.{arith}
@@ -35,21 +36,45 @@ module _ (s : Spec) (r : Run) (nest : Falls (s .above)) (tree : Falls (r .parent
 
   abbrev pub test-firsts : (i d : ℕ) → Test (Firsts s r i d)
   test-firsts i d = test-as (λ h q a. h q (omega (arith, chain-le tree a)) a) (λ h q l. h q)
-      (test-all (suc i) (λ q. test-imp (test-chain tree i q) (test-imp (test-chain tree q d) (test-imp (test-not (test-eq q d)) (test-imp (test-eq (s .kind (r .block q)) 2) (test-first r q))))))
+      (test-all (suc i) (λ q. test-imp (test-chain tree i q) (test-imp (test-chain tree q d) (test-imp (test-not (test-eq q d))
+      (test-imp (test-eq (s .kind (r .block q)) 2) (test-first r q))))))
 
   abbrev pub test-lasts : (i d : ℕ) → Test (Lasts s r i d)
   test-lasts i d = test-as (λ h q a. h q (omega (arith, chain-le tree a)) a) (λ h q l. h q)
-      (test-all (suc i) (λ q. test-imp (test-chain tree i q) (test-imp (test-chain tree q d) (test-imp (test-not (test-eq q d)) (test-imp (test-eq (s .kind (r .block q)) 2) (test-last r q))))))
+      (test-all (suc i) (λ q. test-imp (test-chain tree i q) (test-imp (test-chain tree q d) (test-imp (test-not (test-eq q d))
+      (test-imp (test-eq (s .kind (r .block q)) 2) (test-last r q))))))
 
   abbrev pub test-farthest : (x y a : ℕ) → Test (Farthest s x y a)
   test-farthest x y a = test-as
-      (λ h. record { holds-x = h .0; holds-y = h .1 .0; farthest = λ k d e i j x y. depth-le nest (h .1 .1 k (omega (arith, chain-le nest i)) i j) y x })
-      (λ f. (f .holds-x, (f .holds-y, λ k l i j. depth-chain nest (f .holds-x) i (depth-of nest k .1) (depth-of nest a .1) (f .farthest k (depth-of nest k .0) (depth-of nest a .0) i j (depth-of nest k .1) (depth-of nest a .1)))))
-      (test-and (test-in a x) (test-and (test-in a y) (test-all (suc (s .home x)) (λ k. test-imp (test-in k x) (test-imp (test-in k y) (test-chain nest a k))))))
+      (λ h. record {
+        holds-x = h .0;
+        holds-y = h .1 .0;
+        farthest = λ k d e i j x y. depth-le nest (h .1 .1 k (omega (arith, chain-le nest i)) i j) y x;
+      })
+      (λ f. (
+        f .holds-x,
+        (
+          f .holds-y,
+          λ k l i j.
+              let d = depth-of nest k in
+              let e = depth-of nest a in
+              depth-chain nest (f .holds-x) i (d .1) (e .1) (f .farthest k (d .0) (e .0) i j (d .1) (e .1)),
+        ),
+      ))
+      (test-and (test-in a x) (test-and (test-in a y)
+      (test-all (suc (s .home x)) (λ k. test-imp (test-in k x) (test-imp (test-in k y) (test-chain nest a k))))))
 
   abbrev pub test-plain : (u w : ℕ) → Test (Plain s r u w)
   test-plain u w = test-as
-      (λ h. let t = h .1 .2 in record { plain-edge = h .0; common = h .1 .0; far = t .0 .0; in-u = t .0 .1; in-w = t .1 .0; lasts = t .1 .1 .0; firsts = t .1 .1 .1 })
+      (λ h. let t = h .1 .2 in record {
+        plain-edge = h .0;
+        common = h .1 .0;
+        far = t .0 .0;
+        in-u = t .0 .1;
+        in-w = t .1 .0;
+        lasts = t .1 .1 .0;
+        firsts = t .1 .1 .1;
+      })
       (λ p. (p .plain-edge, (p .common, omega (arith, chain-le tree (p .in-u)), ((p .far, p .in-u), (p .in-w, (p .lasts, p .firsts))))))
       (test-and (test-bool (s .edge (r .origin u) (r .origin w)))
       (test-any (suc (r .context u)) (λ d. test-and
@@ -58,7 +83,18 @@ module _ (s : Spec) (r : Run) (nest : Falls (s .above)) (tree : Falls (r .parent
 
   abbrev pub test-back : (u w : ℕ) → Test (Back s r u w)
   test-back u w = test-as
-      (λ h. let t = h .2 .2 in record { from = h .0; to = h .2 .0; is-loop = t .0 .0; from-sink = t .0 .1 .0; to-source = t .0 .1 .1; back-u = t .1 .0 .0; back-w = t .1 .0 .1; next = t .1 .1 .0; back-lasts = t .1 .1 .1 .0; back-firsts = t .1 .1 .1 .1 })
+      (λ h. let t = h .2 .2 in record {
+        from = h .0;
+        to = h .2 .0;
+        is-loop = t .0 .0;
+        from-sink = t .0 .1 .0;
+        to-source = t .0 .1 .1;
+        back-u = t .1 .0 .0;
+        back-w = t .1 .0 .1;
+        next = t .1 .1 .0;
+        back-lasts = t .1 .1 .1 .0;
+        back-firsts = t .1 .1 .1 .1;
+      })
       (λ p. (
         p .from,
         omega (arith, chain-le tree (p .back-u)),

@@ -89,7 +89,12 @@ module _ (sp : Spec) (r : Run) (o : ℕ → Bool) (tree : Falls (r .parent)) whe
   abreast {i} {ks} c = places-rising ks λ q q′ k k′ a b h.
       let x = c .only-children q k a in
       let y = c .only-children q′ k′ b in
-      record { left-above = x .not-whole; right-above = y .not-whole; one-parent = x .directly ∙ sym (y .directly); comes = c .in-order q q′ k k′ a b h }
+      record {
+        left-above = x .not-whole;
+        right-above = y .not-whole;
+        one-parent = x .directly ∙ sym (y .directly);
+        comes = c .in-order q q′ k k′ a b h;
+      }
 
   -- x lies under one of the copies in the list, or is one
   abbrev Under : ℕ → List ℕ → Type 0
@@ -262,7 +267,8 @@ module _ (sp : Spec) (r : Run) (o : ℕ → Bool) (tree : Falls (r .parent)) whe
   abbrev High : ℕ → List ℕ → Type 0
   High m is = (k : ℕ) → In k is → (k < r .c) × (r .c ≤ k + m)
 
-  laid-step : (m : ℕ) → ((ks : List ℕ) → High m ks → (l : List ℕ) × Laid sp r o ks l) → (is : List ℕ) → High (suc m) is → (l : List ℕ) × Laid sp r o is l
+  laid-step : (m : ℕ) → ((ks : List ℕ) → High m ks → (l : List ℕ) × Laid sp r o ks l)
+      → (is : List ℕ) → High (suc m) is → (l : List ℕ) × Laid sp r o is l
   laid-step m on [] h = ([], nothing)
   laid-step m on (i ∷ is) h =
       let c = children-of i in

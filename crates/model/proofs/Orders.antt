@@ -42,7 +42,8 @@ module _ {p : ℕ → ℕ} (f : Falls p) where
   meet-up {i} {j} h (inr (inl c)) = cases (chain-child c)
       (λ e. inl (up (chain-eq (sym e))))
       (λ k.
-      let x : Split p i j (k .0) j = record { left = k .1; right = stop; left-pos = child-pos f (k .2) (k .3); right-pos = omega arith; same-parent = k .2 } in
+      let z : 0 < k .0 = child-pos f (k .2) (k .3) in
+      let x : Split p i j (k .0) j = record { left = k .1; right = stop; left-pos = z; right-pos = omega arith; same-parent = k .2 } in
       inr (inr (k .0, j, x, λ e. omega (arith, e, chain-le f (k .1)))))
   meet-up h (inr (inr x)) = inr (inr (x .0, x .1, split-right (up stop) (x .2), x .3))
 
@@ -114,13 +115,19 @@ module _ (sp : Spec) (r : Run) (o : ℕ → Bool) where
     before-join i j k (inl a) (inl b) = inl (chain-join (b .0) (a .0), λ e. a .1 (omega (arith, e, chain-le f (a .0), chain-le f (b .0))))
     before-join i j k (inl a) (inr b) = cases (comparable (a .0) (x .left)) down λ c. cases (chain-parent c)
         (λ e. down (chain-eq (sym e)))
-        (λ c′. inl (over (x .right) (sym (x .same-parent)) c′, λ e. omega (arith, e, chain-le f (over (x .right) (sym (x .same-parent)) c′), chain-le f c′, below)))
+        (λ c′. inl (over (x .right) (sym (x .same-parent)) c′, λ e. omega (arith, e, chain-le f c′, below)))
       where
         x : Split (r .parent) j k (b .bs) (b .bt)
         x = b .bsplit
 
         down : Chain (r .parent) i (b .bs) → Before sp r o i k
-        down c = branch (record { left = c; right = x .right; left-pos = x .left-pos; right-pos = x .right-pos; same-parent = x .same-parent }) (b .sooner)
+        down c = branch (record {
+          left = c;
+          right = x .right;
+          left-pos = x .left-pos;
+          right-pos = x .right-pos;
+          same-parent = x .same-parent;
+        }) (b .sooner)
 
         below : r .parent (b .bs) < k
         below = omega (arith, x .same-parent, f .falls (b .bt) (x .right-pos), chain-le f (x .right))

@@ -1,4 +1,4 @@
--- Paths, and walks that end.
+-- Paths joined, turned and mapped; and that a walk back along a relation without cycles ends, within bounds.
 use mathlib.Core.Path.{_≡_, refl}
 use mathlib.Core.Logic.{_⊎_, inl, inr}
 use mathlib.Core.Bool.{Bool, false, _||_}
@@ -17,6 +17,7 @@ path-join p (step q e) = step (path-join p q) e
 pub path-one : {R : ℕ → ℕ → Type 0} {x y : ℕ} → R x y → Path* R x y
 path-one e = step here e
 
+-- a path is empty, or has a last edge
 pub path-last : {R : ℕ → ℕ → Type 0} {x z : ℕ} → Path* R x z → (x ≡ z) ⊎ ((y : ℕ) × Path* R x y × R y z)
 path-last here = inl refl
 path-last (step {y = y} p e) = inr (y, p, e)
@@ -29,6 +30,8 @@ pub path-map : {R Q : ℕ → ℕ → Type 0} {x y : ℕ} → ((a b : ℕ) → R
 path-map f here = here
 path-map f (step {y = y} {z = z} p e) = step (path-map f p) (f y z e)
 
+-- Every P below n is a Q or has a P just before it along R, and R has no cycle: so walking back from a P ends at a Q. The walk marks what it
+-- has passed; each step marks one number more, and there are n.
 module _ (R : ℕ → ℕ → Type 0) (P Q : ℕ → Type 0) (n : ℕ)
     (no-cycle : (x y : ℕ) → Path* R x y → R y x → ⊥)
     (range : (x : ℕ) → P x → x < n)
@@ -50,8 +53,8 @@ module _ (R : ℕ → ℕ → Type 0) (P Q : ℕ → Type 0) (n : ℕ)
 
   mark-one : (f : ℕ → Bool) (x : ℕ) → P x → Seen f x → count n f < count n (mark f x)
   unfolding mark
-  mark-one f x a seen = count-lt x (λ m t. or-thus (f m) (eqb x m) (inl t)) (range x a) (fresh f x seen) (or-thus (f x) (eqb x x) (inr (eqb-refl x)))
-      (count-is n f) (count-is n (mark f x))
+  mark-one f x a seen = count-lt x (λ m t. or-thus (f m) (eqb x m) (inl t)) (range x a)
+      (fresh f x seen) (or-thus (f x) (eqb x x) (inr (eqb-refl x))) (count-is n f) (count-is n (mark f x))
 
   mark-seen : (f : ℕ → Bool) (x y : ℕ) → R y x → Seen f x → Seen (mark f x) y
   unfolding mark

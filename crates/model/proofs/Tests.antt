@@ -1,4 +1,4 @@
--- Tests that compute, of bounded statements.
+-- Tests that compute, for statements with bounds: how the worked example is checked.
 use mathlib.Core.Path.{_≡_, subst}
 use mathlib.Core.Logic.{_⊎_, inl, inr}
 use mathlib.Core.Bool.{Bool, true, false, _&&_, _||_, not}
@@ -115,7 +115,11 @@ any-thus zero f x l h = absurd (omega arith)
 any-thus (suc n) f x l h = or-thus (f n) (any n f) (cases (same-or x n) (λ e. inl (rw (← e) h)) (λ d. inr (any-thus n f x (omega arith) h)))
 
 abbrev pub test-all : (n : ℕ) {P : ℕ → Type 0} → ((x : ℕ) → Test (P x)) → Test ((x : ℕ) → x < n → P x)
-test-all n t = record { bit = all n (λ x. t x .bit); so = λ h x l. t x .so (all-so n (λ x. t x .bit) h x l); thus = λ h. all-thus n (λ x. t x .bit) (λ x l. t x .thus (h x l)) }
+test-all n t = record {
+  bit = all n (λ x. t x .bit);
+  so = λ h x l. t x .so (all-so n (λ x. t x .bit) h x l);
+  thus = λ h. all-thus n (λ x. t x .bit) (λ x l. t x .thus (h x l));
+}
 
 abbrev pub test-any : (n : ℕ) {P : ℕ → Type 0} → ((x : ℕ) → Test (P x)) → Test ((x : ℕ) × (x < n) × P x)
 test-any n t = record {
@@ -124,7 +128,7 @@ test-any n t = record {
   thus = λ h. any-thus n (λ x. t x .bit) (h .0) (h .1) (t (h .0) .thus (h .2));
 }
 
--- fuel k from i
+-- a walk of at most k parents from i meets j
 abbrev pub chainb : (ℕ → ℕ) → ℕ → ℕ → ℕ → Bool
 chainb p zero i j = eqb i j
 chainb p (suc k) i j = eqb i j || chainb p k (p i) j
@@ -136,7 +140,8 @@ module _ {p : ℕ → ℕ} (f : Falls p) where
 
   pub chainb-thus : (k i j : ℕ) → i ≤ k → Chain p i j → T (chainb p k i j)
   chainb-thus zero i j l c = eq→eqb i j (omega (arith, chain-le f c))
-  chainb-thus (suc k) i j l c = or-thus (eqb i j) (chainb p k (p i) j) (cases (chain-parent c) (λ e. inl (eq→eqb i j e)) (λ d. inr (chainb-thus k (p i) j (fall i l) d)))
+  chainb-thus (suc k) i j l c = or-thus (eqb i j) (chainb p k (p i) j)
+      (cases (chain-parent c) (λ e. inl (eq→eqb i j e)) (λ d. inr (chainb-thus k (p i) j (fall i l) d)))
     where
       fall : (i : ℕ) → i ≤ suc k → p i ≤ k
       fall zero l = omega (arith, f .zero-parent)
