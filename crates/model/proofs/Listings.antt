@@ -13,69 +13,12 @@ use Rattle.model.specs.Orders.{Sooner, Before, Position}
 use Rattle.model.specs.Listings.{Stands, Child, Children, Laid, nothing, copy, Listing}
 use Rattle.model.specs.Laws.{Written}
 use Rattle.model.proofs.Cases.{cases, same-or, less-or, zero-or}
-use Rattle.model.proofs.Chains.{chain-le, chain-eq, chain-join, chain-child, above-zero}
+use Rattle.model.proofs.Chains.{chain-le, chain-eq, chain-join, chain-child, child-pos, above-zero}
+use Rattle.model.proofs.Lists.{In, first, later, is-first, in-none, in-cons, in-left, in-right, in-append, place-in, in-place}
+use Rattle.model.proofs.Lists.{Rising, empty, more, rising-append, rising-places, places-rising}
 use Rattle.model.proofs.Counts.{count-all, count-one, count-iff, count-places}
 use Rattle.model.proofs.Orders.{sooner-join, sooner-total, branch, before-never, before-join, position-one}
 use Rattle.std.proofs.shelf.Lists.{ext-getD}
-
--- x is in the list
-data In (x : ℕ) : List ℕ → Type 0 where
-  first : {l : List ℕ} → In x (x ∷ l)
-  later : {y : ℕ} {l : List ℕ} → In x l → In x (y ∷ l)
-
-in-none : {x : ℕ} → In x [] → ⊥
-in-none h = elim h [ ]
-
-in-cons : {x y : ℕ} {l : List ℕ} → In x (y ∷ l) → (x ≡ y) ⊎ In x l
-in-cons first = inl refl
-in-cons (later h) = inr h
-
-in-left : {x : ℕ} {l : List ℕ} (m : List ℕ) → In x l → In x (l ++ m)
-in-left m first = first
-in-left m (later h) = later (in-left m h)
-
-in-right : {x : ℕ} (l : List ℕ) {m : List ℕ} → In x m → In x (l ++ m)
-in-right [] h = h
-in-right (y ∷ l) h = later (in-right l h)
-
-in-append : {x : ℕ} (l : List ℕ) {m : List ℕ} → In x (l ++ m) → In x l ⊎ In x m
-in-append [] h = inr h
-in-append (y ∷ l) first = inl first
-in-append (y ∷ l) (later h) = cases (in-append l h) (λ a. inl (later a)) inr
-
-place-in : {x : ℕ} (l : List ℕ) (q : ℕ) → Stands l q x → In x l
-place-in [] q h = absurd (omega (arith, h .0))
-place-in {x} (y ∷ l) zero h = subst (λ z. In z (y ∷ l)) (h .1) first
-place-in (y ∷ l) (suc q) h = later (place-in l q (omega (arith, h .0), h .1))
-
-in-place : {x : ℕ} {l : List ℕ} → In x l → (q : ℕ) × Stands l q x
-in-place first = (0, (omega arith, refl))
-in-place (later h) = let w = in-place h in (suc (w .0), (omega (arith, w .1 .0), w .1 .1))
-
--- every element stands in the relation R to all that come after it
-data Rising (R : ℕ → ℕ → Type 0) : List ℕ → Type 0 where
-  empty : Rising R []
-  more : {x : ℕ} {l : List ℕ} → ((y : ℕ) → In y l → R x y) → Rising R l → Rising R (x ∷ l)
-
-rising-append : {R : ℕ → ℕ → Type 0} {l m : List ℕ} → Rising R l → Rising R m → ((x y : ℕ) → In x l → In y m → R x y) → Rising R (l ++ m)
-rising-append empty b f = b
-rising-append {l = x ∷ l} (more h a) b f = more
-    (λ y i. cases (in-append l i) (h y) (f x y first))
-    (rising-append a b (λ x y i. f x y (later i)))
-
-rising-places : {R : ℕ → ℕ → Type 0} {l : List ℕ} → Rising R l → (q q′ k k′ : ℕ) → Stands l q k → Stands l q′ k′ → q < q′ → R k k′
-rising-places empty q q′ k k′ a b h = absurd (omega (arith, b .0))
-rising-places (more f r) q zero k k′ a b h = absurd (omega arith)
-rising-places {R} {l = x ∷ l} (more f r) zero (suc q′) k k′ a b h =
-    subst (λ z. R z k′) (a .1) (f k′ (place-in l q′ (omega (arith, b .0), b .1)))
-rising-places (more f r) (suc q) (suc q′) k k′ a b h =
-    rising-places r q q′ k k′ (omega (arith, a .0), a .1) (omega (arith, b .0), b .1) (omega arith)
-
-places-rising : {R : ℕ → ℕ → Type 0} (l : List ℕ) → ((q q′ k k′ : ℕ) → Stands l q k → Stands l q′ k′ → q < q′ → R k k′) → Rising R l
-places-rising [] f = empty
-places-rising (x ∷ l) f = more
-    (λ y i. let w = in-place i in f 0 (suc (w .0)) x y (omega arith, refl) (omega (arith, w .1 .0), w .1 .1) (omega arith))
-    (places-rising l (λ q q′ k k′ a b h. f (suc q) (suc q′) k k′ (omega (arith, a .0), a .1) (omega (arith, b .0), b .1) (omega arith)))
 
 module _ (sp : Spec) (r : Run) (o : ℕ → Bool) (tree : Falls (r .parent)) where
   -- k comes sooner than k′, under one copy
@@ -100,6 +43,7 @@ module _ (sp : Spec) (r : Run) (o : ℕ → Bool) (tree : Falls (r .parent)) whe
   abbrev Under : ℕ → List ℕ → Type 0
   Under x is = (k : ℕ) × In k is × Chain (r .parent) x k
 
+  -- the list holds copies of the run
   abbrev Copies : List ℕ → Type 0
   Copies is = (k : ℕ) → In k is → k < r .c
 
@@ -109,9 +53,12 @@ module _ (sp : Spec) (r : Run) (o : ℕ → Bool) (tree : Falls (r .parent)) whe
   child-under : {i x : ℕ} {ks : List ℕ} → Children sp r o i ks → Under x ks → Chain (r .parent) x i × (i ≢ x)
   child-under {i} {x} {ks} c u =
       let w = in-place (u .1) in
-      let d = c .only-children (w .0) (u .0) (w .1) in
-      (chain-join (u .2) (up (chain-eq (d .directly))), λ e. omega (arith, e, chain-le tree (u .2), tree .falls (u .0) (d .not-whole), d .directly))
+      let d = c .only-children (w .0) (u .0) (w .1) in (
+        chain-join (u .2) (up (chain-eq (d .directly))),
+        λ e. omega (arith, e, chain-le tree (u .2), tree .falls (u .0) (d .not-whole), d .directly),
+      )
 
+  -- Laying out copies lists exactly what lies under them, the copies included: nothing else ..
   laid-under : {is l : List ℕ} → Laid sp r o is l → Copies is → (x : ℕ) → In x l → Under x is × (x < r .c)
   laid-under nothing h x a = absurd (in-none a)
   laid-under (copy {i} {ks} {below} {is} {rest} c b d) h x a = cases (in-cons a)
@@ -120,29 +67,40 @@ module _ (sp : Spec) (r : Run) (o : ℕ → Bool) (tree : Falls (r .parent)) whe
       (λ y. let w = laid-under b (children-copies c) x y in ((i, first, child-under c (w .0) .0), w .1))
       (λ y. let w = laid-under d (λ k z. h k (later z)) x y in ((w .0 .0, later (w .0 .1), w .0 .2), w .1)))
 
+  -- .. and all of it
   under-laid : {is l : List ℕ} → Laid sp r o is l → (x : ℕ) → x < r .c → Under x is → In x l
   under-laid nothing x h u = absurd (in-none (u .1))
   under-laid (copy {i} {ks} {below} {is} {rest} c b d) x h u = cases (in-cons (u .1))
       (λ e. cases (chain-child (u .2))
-      (λ e′. subst (λ z. In z (i ∷ (below ++ rest))) (sym e ∙ sym e′) first)
+      (λ e′. is-first (e′ ∙ e))
       (λ k.
-      let z : 0 < k .0 = cases (zero-or (k .0)) (λ e. absurd (k .3 (e ∙ sym (tree .zero-parent) ∙ ap (r .parent) (sym e) ∙ k .2))) (λ y. y) in
+      let z : 0 < k .0 = child-pos tree (k .2) (k .3) in
       let w = c .all-children (k .0) (record { in-run = omega (arith, chain-le tree (k .1)); not-whole = z; directly = k .2 ∙ e }) in
       later (in-left rest (under-laid b x h (k .0, place-in ks (w .0) (w .1), k .1)))))
       (λ y. later (in-right below (under-laid d x h (u .0, y, u .2))))
 
+  -- laying out copies that come one after the other lists what lies under them in the order
   laid-rising : {is l : List ℕ} → Laid sp r o is l → Copies is → Rising Abreast is → Rising (Before sp r o) l
   laid-rising nothing h a = empty
-  laid-rising (copy {i} {ks} {below} {is} {rest} c b d) h (more f a) =
-      let apart : (x y : ℕ) → Chain (r .parent) x i → In y rest → Before sp r o x y = λ x y p q.
-      let u = laid-under d (λ k z. h k (later z)) y q .0 in
-      let g = f (u .0) (u .1) in
-      branch sp r o (record { left = p; right = u .2; left-pos = g .left-above; right-pos = g .right-above; same-parent = g .one-parent }) (g .comes) in
-      let under : (y : ℕ) → In y below → Chain (r .parent) y i × (i ≢ y) = λ y q. child-under c (laid-under b (children-copies c) y q .0) in
-      more
-      (λ y q. cases (in-append below q) (λ q′. inl (under y q′)) (λ q′. apart i y stop q′))
-      (rising-append (laid-rising b (children-copies c) (abreast c)) (laid-rising d (λ k z. h k (later z)) a) (λ x y p q. apart x y (under x p .0) q))
+  laid-rising (copy {i} {ks} {below} {is} {rest} c b d) h (more f a) = more
+      (λ y q. cases (in-append below q) (λ q′. inl (under y q′)) (λ q′. beside i y stop q′))
+      (rising-append (laid-rising b (children-copies c) (abreast c)) (laid-rising d others a) (λ x y p q. beside x y (under x p .0) q))
+    where
+      others : Copies is
+      others k z = h k (later z)
 
+      under : (y : ℕ) → In y below → Chain (r .parent) y i × (i ≢ y)
+      under y q = child-under c (laid-under b (children-copies c) y q .0)
+
+      beside : (x y : ℕ) → Chain (r .parent) x i → In y rest → Before sp r o x y
+      beside x y p q =
+          let u = laid-under d others y q .0 in
+          let g = f (u .0) (u .1) in
+          branch sp r o
+          (record { left = p; right = u .2; left-pos = g .left-above; right-pos = g .right-above; same-parent = g .one-parent })
+          (g .comes)
+
+  -- what an order written out holds, and where
   module _ {l : List ℕ} (w : Listing sp r o l) (some : 0 < r .c) where
     only-zero : Copies (0 ∷ [])
     only-zero k h = cases (in-cons h) (λ e. omega arith) (λ a. absurd (in-none a))
@@ -171,14 +129,19 @@ module _ (sp : Spec) (r : Run) (o : ℕ → Bool) (tree : Falls (r .parent)) whe
       where
         earlier : (j : ℕ) → Before sp r o j i → (p : ℕ) → Stands l p j → p < q
         earlier j b p s = cases (less-or p q) (λ x. x) λ x. cases (same-or q p)
-            (λ e. absurd (before-never sp r o tree i (subst (λ z. Before sp r o z i) (sym (s .1) ∙ ap (λ p. getD l p 0) (sym e) ∙ h .1) b)))
+            (λ e.
+            let same : j ≡ i = sym (s .1) ∙ ap (λ p. getD l p 0) (sym e) ∙ h .1 in
+            absurd (before-never sp r o tree i (subst (λ z. Before sp r o z i) same b)))
             (λ d. absurd (before-never sp r o tree i (before-join sp r o tree i j i (place-before q p i j h s (omega arith)) b)))
 
     place-is : (i q : ℕ) → i < r .c → Position sp r o i q ↔ Stands l q i
-    place-is i q h = (
-      (λ a. let p = place-of i h in subst (λ z. Stands l z i) (position-one sp r o tree i (p .0) q (place-position i (p .0) (p .1)) a) (p .1)),
-      place-position i q,
-    )
+    place-is i q h = (there, place-position i q)
+      where
+        there : Position sp r o i q → Stands l q i
+        there a =
+            let p = place-of i h in
+            let same : p .0 ≡ q = position-one sp r o tree i (p .0) q (place-position i (p .0) (p .1)) a in
+            subst (λ z. Stands l z i) same (p .1)
 
     listing-length : length l ≡ r .c
     listing-length = count-one
@@ -197,13 +160,14 @@ module _ (sp : Spec) (r : Run) (o : ℕ → Bool) (tree : Falls (r .parent)) whe
   Soon = Sooner sp r o
 
   -- the list with k put where it belongs
-  insert : (k : ℕ) {ks : List ℕ} → Rising Soon ks → (¬ (In k ks)) → (l : List ℕ) × Rising Soon l × ((x : ℕ) → In x l ↔ ((x ≡ k) ⊎ In x ks))
-  insert k empty g = ((k ∷ []), more (λ y h. absurd (in-none h)) empty, λ x. (in-cons, λ a. cases a (λ e. subst (λ z. In z (k ∷ [])) (sym e) first) (λ h. absurd (in-none h))))
-  insert k {ks = y ∷ ys} (more f a) g = cases (sooner-total sp r o {s = k} {t = y} (λ e. g (subst (λ z. In z (y ∷ ys)) (sym e) first)))
+  insert : (k : ℕ) {ks : List ℕ} → Rising Soon ks → (¬ (In k ks))
+      → (l : List ℕ) × Rising Soon l × ((x : ℕ) → In x l ↔ ((x ≡ k) ⊎ In x ks))
+  insert k empty g = ((k ∷ []), more (λ y h. absurd (in-none h)) empty, λ x. (in-cons, λ a. cases a is-first later))
+  insert k {ks = y ∷ ys} (more f a) g = cases (sooner-total sp r o {s = k} {t = y} (λ e. g (is-first e)))
       (λ h. (
         (k ∷ (y ∷ ys)),
         more (λ x i. cases (in-cons i) (λ e. subst (λ z. Soon k z) (sym e) h) (λ i′. sooner-join sp r o h (f x i′))) (more f a),
-        λ x. (in-cons, λ i. cases i (λ e. subst (λ z. In z (k ∷ (y ∷ ys))) (sym e) first) later),
+        λ x. (in-cons, λ i. cases i is-first later),
       ))
       (λ h.
       let w = insert k a (λ i. g (later i)) in (
@@ -211,11 +175,11 @@ module _ (sp : Spec) (r : Run) (o : ℕ → Bool) (tree : Falls (r .parent)) whe
         more (λ x i. cases (w .2 x .0 i) (λ e. subst (λ z. Soon y z) (sym e) h) (f x)) (w .1),
         λ x. (
           (λ i. cases (in-cons i)
-              (λ e. inr (subst (λ z. In z (y ∷ ys)) (sym e) first))
+              (λ e. inr (is-first e))
               (λ i′. cases (w .2 x .0 i′) inl (λ i″. inr (later i″)))),
           (λ i. cases i
               (λ e. later (w .2 x .1 (inl e)))
-              (λ i′. cases (in-cons i′) (λ e. subst (λ z. In z (y ∷ w .0)) (sym e) first) (λ i″. later (w .2 x .1 (inr i″))))),
+              (λ i′. cases (in-cons i′) is-first (λ i″. later (w .2 x .1 (inr i″))))),
         ),
       ))
 
@@ -267,6 +231,7 @@ module _ (sp : Spec) (r : Run) (o : ℕ → Bool) (tree : Falls (r .parent)) whe
   abbrev High : ℕ → List ℕ → Type 0
   High m is = (k : ℕ) → In k is → (k < r .c) × (r .c ≤ k + m)
 
+  -- children have higher numbers, so the recursion ends
   laid-step : (m : ℕ) → ((ks : List ℕ) → High m ks → (l : List ℕ) × Laid sp r o ks l)
       → (is : List ℕ) → High (suc m) is → (l : List ℕ) × Laid sp r o is l
   laid-step m on [] h = ([], nothing)

@@ -4,7 +4,7 @@ use mathlib.Core.Logic.{_⊎_, inl, inr}
 use mathlib.Core.Bool.{Bool, true, false, _&&_, _||_, not}
 use Prim.Native.Nat.{ℕ, zero, suc, _≤_, _<_}
 use native.Mathlib.Omega.{arith}
-use lib.Dec.{T, eqb, leb, leb→le, le→leb, eqb→eq, eqb-refl}
+use lib.Dec.{T, T-not, not-T, eqb, leb, leb→le, le→leb, eqb→eq, eqb-refl}
 use Rattle.model.specs.Forests.{Chain, up, Falls}
 use Rattle.model.proofs.Cases.{cases, same-or}
 use Rattle.model.proofs.Chains.{chain-le, chain-eq, chain-parent}
@@ -38,14 +38,6 @@ or-thus true b h = tt
 or-thus false b (inl h) = elim h [ ]
 or-thus false b (inr h) = h
 
-pub not-so : (a : Bool) → T (not a) → T a → ⊥
-not-so true h k = h
-not-so false h k = k
-
-pub not-thus : (a : Bool) → (T a → ⊥) → T (not a)
-not-thus true h = h tt
-not-thus false h = tt
-
 pub bool-or : (a : Bool) → T a ⊎ (T a → ⊥)
 bool-or true = inl tt
 bool-or false = inr (λ h. h)
@@ -77,13 +69,13 @@ test-or p q = record {
 }
 
 abbrev pub test-not : {P : Type 0} → Test P → Test (¬ P)
-test-not p = record { bit = not (p .bit); so = λ h x. not-so (p .bit) h (p .thus x); thus = λ h. not-thus (p .bit) (λ x. h (p .so x)) }
+test-not p = record { bit = not (p .bit); so = λ h x. T-not (p .bit) h (p .thus x); thus = λ h. not-T (p .bit) (λ x. h (p .so x)) }
 
 abbrev pub test-imp : {P Q : Type 0} → Test P → Test Q → Test (P → Q)
 test-imp p q = record {
   bit = not (p .bit) || q .bit;
-  so = λ h x. cases (or-so (not (p .bit)) (q .bit) h) (λ y. absurd (not-so (p .bit) y (p .thus x))) (q .so);
-  thus = λ h. or-thus (not (p .bit)) (q .bit) (cases (bool-or (p .bit)) (λ x. inr (q .thus (h (p .so x)))) (λ x. inl (not-thus (p .bit) x)));
+  so = λ h x. cases (or-so (not (p .bit)) (q .bit) h) (λ y. absurd (T-not (p .bit) y (p .thus x))) (q .so);
+  thus = λ h. or-thus (not (p .bit)) (q .bit) (cases (bool-or (p .bit)) (λ x. inr (q .thus (h (p .so x)))) (λ x. inl (not-T (p .bit) x)));
 }
 
 abbrev pub test-as : {P Q : Type 0} → (P → Q) → (Q → P) → Test P → Test Q
