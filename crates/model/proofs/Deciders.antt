@@ -105,7 +105,8 @@ module _ (s : Spec) (r : Run) (nest : Falls (s .above)) (tree : Falls (r .parent
         ),
       ))
       (test-any (suc (r .context u)) (λ q. test-any (suc (r .context w)) (λ q′. test-and
-      (test-and (test-eq (s .kind (r .block q)) 2) (test-and (test-eq (r .origin u) (s .sink (r .block q))) (test-eq (r .origin w) (s .source (r .block q)))))
+      (test-and (test-eq (s .kind (r .block q)) 2)
+      (test-and (test-eq (r .origin u) (s .sink (r .block q))) (test-eq (r .origin w) (s .source (r .block q)))))
       (test-and (test-and (test-chain tree (r .context u) q) (test-chain tree (r .context w) q′))
       (test-and (test-next r q q′) (test-and (test-lasts (r .context u) q) (test-firsts (r .context w) q′)))))))
 
@@ -121,7 +122,8 @@ test-turned false s t = test-lt s t
 
 module _ (sp : Spec) (r : Run) (o : ℕ → Bool) (tree : Falls (r .parent)) where
   abbrev pub test-sooner : (s t : ℕ) → Test (Sooner sp r o s t)
-  test-sooner s t = test-or (test-lt (r .block s) (r .block t)) (test-and (test-eq (r .block s) (r .block t)) (test-turned (o (sp .kind (r .block s))) s t))
+  test-sooner s t = test-or (test-lt (r .block s) (r .block t))
+      (test-and (test-eq (r .block s) (r .block t)) (test-turned (o (sp .kind (r .block s))) s t))
 
   abbrev pub test-before : (i j : ℕ) → Test (Before sp r o i j)
   test-before i j = test-or (test-and (test-chain tree j i) (test-not (test-eq i j)))
@@ -142,8 +144,10 @@ module _ (sp : Spec) (r : Run) (o : ℕ → Bool) (tree : Falls (r .parent)) whe
         ),
       ))
       (test-any (suc i) (λ s. test-any (suc j) (λ t. test-and
-      (test-and (test-and (test-chain tree i s) (test-chain tree j t)) (test-and (test-lt 0 s) (test-and (test-lt 0 t) (test-eq (r .parent s) (r .parent t)))))
+      (test-and (test-and (test-chain tree i s) (test-chain tree j t))
+      (test-and (test-lt 0 s) (test-and (test-lt 0 t) (test-eq (r .parent s) (r .parent t)))))
       (test-sooner s t)))))
 
+  -- a position, by counting with the test
   pub position-at : (i : ℕ) → Position sp r o i (count (r .c) (λ j. test-before j i .bit))
   position-at i = count-iff (λ j l. test-before j i .so) (λ j l. test-before j i .thus) (count-is (r .c) (λ j. test-before j i .bit))

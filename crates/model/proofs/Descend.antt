@@ -37,9 +37,11 @@ module _ {s : Spec} {r : Run} (S : Sealed s) (C : Conforms s r) where
 
   land-here : (d y : ℕ) → d < r .c → y < s .n → s .home y ≡ r .block d → (v : ℕ) × Lands s r d y v × (r .context v ≡ d)
   land-here d y hd hy e =
-      let u = C .one-step d y hd hy e in
-      let l : Lands s r d y (u .0) = record { land-range = u .1; land-origin = u .3; land-below = chain-eq (u .2); land-lasts = lasts-self s (C .tree) (u .2) } in
-      (u .0, l, u .2)
+      let u = C .one-step d y hd hy e in (
+        u .0,
+        record { land-range = u .1; land-origin = u .3; land-below = chain-eq (u .2); land-lasts = lasts-self s (C .tree) (u .2) },
+        u .2,
+      )
 
   -- the block on the way from the block of d down to the home of y
   record Way (d y : ℕ) : Type 0 where

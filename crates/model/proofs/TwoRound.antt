@@ -41,7 +41,8 @@ paired-at (t ∷ ts) (u ∷ us) x y h = cases (or-so (eqb t x && eqb u y) (paire
     (λ b. let w = paired-at ts us x y b in (suc (w .0), omega (arith, w .1), w .2, w .3))
 
 -- so what holds of the numbers at every place holds of all that are paired
-paired-all : (P : ℕ → ℕ → Type 0) (ts hs : List ℕ) → ((i : ℕ) → i < length ts → P (table ts i) (table hs i)) → (x y : ℕ) → T (paired ts hs x y) → P x y
+paired-all : (P : ℕ → ℕ → Type 0) (ts hs : List ℕ) → ((i : ℕ) → i < length ts → P (table ts i) (table hs i))
+    → (x y : ℕ) → T (paired ts hs x y) → P x y
 paired-all P ts hs f x y h =
     let w = paired-at ts hs x y h in
     subst (λ a. P a y) (w .2) (subst (λ b. P (table ts (w .0)) b) (w .3) (f (w .0) (w .1)))
@@ -221,8 +222,9 @@ place o i = count 6 (λ j. test-before import-spec import-run o tree-falls j i .
 position-now : (o : ℕ → Bool) (i q : ℕ) → place o i ≡ q → Position import-spec import-run o i q
 position-now o i q e = subst (λ z. Position import-spec import-run o i z) e (position-at import-spec import-run o tree-falls i)
 
--- the order is the list on whose places its copies have their positions
-written-now : (o : ℕ → Bool) (l : List ℕ) → length l ≡ 6 → ((q : ℕ) → q < 6 → (place o (table l q) ≡ q) × (table l q < 6)) → Listing import-spec import-run o l
+-- an order is the list of six copies in which each stands at its position
+written-now : (o : ℕ → Bool) (l : List ℕ) → length l ≡ 6 → ((q : ℕ) → q < 6 → (place o (table l q) ≡ q) × (table l q < 6))
+    → Listing import-spec import-run o l
 written-now o l n f =
     let W = written import-spec import-run o tree-falls (omega arith) in
     let m = W .some-listing in
