@@ -5,7 +5,6 @@ ghost use lib.Dec.{T};
 ghost use lib.ListN.{length};
 ghost use Rattle.model.specs.Forests.{Chain};
 ghost use Rattle.nesting.specs.Parts.{parts-spec, Holds-domain};
-
 use crate::parts::Parts;
 use formats::contents::BlockKind;
 use graphs::row::Row;

@@ -1,8 +1,7 @@
 //! Layer 2, nesting: what it takes for a specification to be sealed.
 
+mod domains;
 pub mod faults;
+mod parts;
 pub mod sealed;
 pub mod sealing;
-
-mod domains;
-mod parts;

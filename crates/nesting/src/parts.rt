@@ -2,7 +2,6 @@ ghost use Prim.Native.Nat.{_≤_};
 ghost use denote.Ref.{now};
 ghost use lib.ListN.{length};
 ghost use Rattle.formats.specs.Specifications.{Sized, Edges-ranged, Homes-ranged, Whole-ranged, Nests-ranged, Ends-ranged};
-
 use formats::kinds::Ends;
 use formats::kinds::Nest;
 use formats::kinds::SpecEdge;
