@@ -1,3 +1,9 @@
 pub mod Walk
 pub mod Ranges
+pub mod PartRanges
 pub mod Filling
+pub mod Edges
+pub mod InDomain
+pub mod CycleLaws
+pub mod EndLaws
+pub mod LoopLaws

@@ -1,7 +1,11 @@
 //! Layer 2, nesting: what it takes for a specification to be sealed.
 
-mod domains;
 pub mod faults;
-mod parts;
 pub mod sealed;
 pub mod sealing;
+
+mod cycles;
+mod domains;
+mod ends;
+mod loops;
+mod parts;
