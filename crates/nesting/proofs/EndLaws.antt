@@ -22,6 +22,7 @@ module _ (s : Spec) (heads tails : Row) (in-heads : Holds-heads s heads) (in-tai
   }
 
   pub fit-of : (e : Ends) → e .source ≡ s .source 0 → e .sink ≡ s .sink 0 → Whole-ends s → (x : ℕ) → x < s .n → Ends-fit heads tails e x
-  fit-of e a b w x h =
-      (((λ n. rw a (w .only-source x h .0 (no-edge-in x .0 n))), λ q. no-edge-in x .1 (w .only-source x h .1 (rw a at q))),
-       ((λ n. rw b (w .only-sink x h .0 (no-edge-out x .0 n))), λ q. no-edge-out x .1 (w .only-sink x h .1 (rw b at q))))
+  fit-of e a b w x h = (
+    ((λ n. rw a (w .only-source x h .0 (no-edge-in x .0 n))), λ q. no-edge-in x .1 (w .only-source x h .1 (rw a at q))),
+    ((λ n. rw b (w .only-sink x h .0 (no-edge-out x .0 n))), λ q. no-edge-out x .1 (w .only-sink x h .1 (rw b at q))),
+  )

@@ -1,9 +1,11 @@
 pub mod Walk
 pub mod Ranges
 pub mod PartRanges
+pub mod PartsOf
 pub mod Filling
 pub mod Edges
 pub mod InDomain
 pub mod CycleLaws
 pub mod EndLaws
 pub mod LoopLaws
+pub mod SealedLaws

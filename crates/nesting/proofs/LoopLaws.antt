@@ -58,13 +58,15 @@ module _ (s : Spec) (k : ℕ) (es : List SpecEdge) (e : Ends) (domain heads tail
   }
 
   pub tests-of : Loop-rule s k → Tests
-  tests-of r =
-      (rw source-is (in-domain (s .source k) .1 (r .source-in)),
-       rw sink-is (in-domain (s .sink k) .1 (r .sink-in)),
-       λ x h d. (or-else (λ n. in-heads x .1 (r .some-in x h (in-domain x .0 d) (rw source-is at n))), or-else (λ n. in-tails x .1 (r .some-out x h (in-domain x .0 d) (rw sink-is at n)))),
-       λ i h. let g : Edge s (tail-at es i) (head-at es i) = subst (λ (f : ℕ → ℕ → _). T (f (tail-at es i) (head-at es i))) (sym edges-are) (at-listed es i h) in
-       (λ d. or-else (λ n. in-domain (tail-at es i) .1 (r .all-in (head-at es i) (tail-at es i) (in-domain (head-at es i) .0 d) (rw source-is at n) g)),
-        λ d. or-else (λ n. in-domain (head-at es i) .1 (r .all-out (tail-at es i) (head-at es i) (in-domain (tail-at es i) .0 d) (rw sink-is at n) g))))
+  tests-of r = (
+    rw source-is (in-domain (s .source k) .1 (r .source-in)),
+    rw sink-is (in-domain (s .sink k) .1 (r .sink-in)),
+    λ x h d. (or-else (λ n. in-heads x .1 (r .some-in x h (in-domain x .0 d) (rw source-is at n))), or-else (λ n. in-tails x .1 (r .some-out x h (in-domain x .0 d) (rw sink-is at n)))),
+    λ i h. let g : Edge s (tail-at es i) (head-at es i) = subst (λ (f : ℕ → ℕ → _). T (f (tail-at es i) (head-at es i))) (sym edges-are) (at-listed es i h) in (
+      λ d. or-else (λ n. in-domain (tail-at es i) .1 (r .all-in (head-at es i) (tail-at es i) (in-domain (head-at es i) .0 d) (rw source-is at n) g)),
+      λ d. or-else (λ n. in-domain (head-at es i) .1 (r .all-out (tail-at es i) (head-at es i) (in-domain (tail-at es i) .0 d) (rw sink-is at n) g)),
+    ),
+  )
 
 -- the tests of loop k of the lent tables
 abbrev pub Loop-tests : Parts → ℕ → Row → Row → Row → Type 0

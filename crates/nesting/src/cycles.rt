@@ -6,7 +6,6 @@ ghost use Rattle.formats.specs.Sections.{Lowest};
 ghost use Rattle.graphs.specs.Graphs.{Joins};
 ghost use Rattle.nesting.specs.Parts.{parts-spec};
 ghost use Rattle.nesting.specs.Unsealed.{On-cycle};
-
 use crate::parts::Parts;
 use graphs::graph::Graph;
 

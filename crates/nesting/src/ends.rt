@@ -2,7 +2,6 @@ ghost use mathlib.Core.Logic.{_↔_};
 ghost use lib.Dec.{T};
 ghost use Rattle.model.specs.Specifications.{Whole-ends};
 ghost use Rattle.nesting.specs.Parts.{parts-spec, Holds-heads, Holds-tails, Ends-fit, Missing-only};
-
 use crate::parts::Parts;
 use formats::kinds::Ends;
 use graphs::row::Row;

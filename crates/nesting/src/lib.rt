@@ -1,11 +1,12 @@
 //! Layer 2, nesting: what it takes for a specification to be sealed.
 
-pub mod faults;
-pub mod sealed;
-pub mod sealing;
-
 mod cycles;
+mod distinct;
 mod domains;
 mod ends;
+pub mod faults;
+mod forks;
 mod loops;
 mod parts;
+pub mod sealed;
+pub mod sealing;

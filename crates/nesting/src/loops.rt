@@ -5,7 +5,6 @@ ghost use lib.ListN.{length};
 ghost use Rattle.model.specs.Specifications.{Loop-rule};
 ghost use Rattle.nesting.specs.Parts.{parts-spec, Holds-heads, Holds-tails, tail-at, head-at};
 ghost use Rattle.nesting.specs.Loops.{Vertex-keeps, Edge-keeps};
-
 use crate::parts::Parts;
 use formats::kinds::Ends;
 use formats::kinds::SpecEdge;
@@ -27,7 +26,8 @@ fn edge_keeps(domain: &Row, ends: Ends, edge: SpecEdge) -> bool
 {
     let starts_inside = domain.has(edge.tail as usize);
     let ends_inside = domain.has(edge.head as usize);
-    (!ends_inside || edge.head == ends.source || starts_inside) && (!starts_inside || edge.tail == ends.sink || ends_inside)
+    (!ends_inside || edge.head == ends.source || starts_inside)
+        && (!starts_inside || edge.tail == ends.sink || ends_inside)
 }
 
 impl Parts<'_> {

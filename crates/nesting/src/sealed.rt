@@ -6,5 +6,5 @@ use formats::specification::Specification;
 #[derive(Drop)]
 pub struct SealedSpecification {
     pub(crate) specification: Specification,
-    ghost is_sealed: { ∥ Sealed (spec-of specification) ∥₁ },
+    ghost sealed: { ∥ Sealed (spec-of specification) ∥₁ },
 }
