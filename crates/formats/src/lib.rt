@@ -3,6 +3,7 @@
 pub mod contents;
 pub mod faults;
 pub mod kinds;
+pub mod laws;
 pub mod reading;
 pub mod records;
 pub mod sections;
