@@ -9,3 +9,4 @@ pub mod CycleLaws
 pub mod EndLaws
 pub mod LoopLaws
 pub mod SealedLaws
+pub mod Decided

@@ -3,3 +3,4 @@ pub mod Unsealed
 pub mod Of
 pub mod Parts
 pub mod Loops
+pub mod Deciding

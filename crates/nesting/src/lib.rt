@@ -8,5 +8,6 @@ pub mod faults;
 mod forks;
 mod loops;
 mod parts;
+pub mod laws;
 pub mod sealed;
 pub mod sealing;
