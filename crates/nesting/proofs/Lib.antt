@@ -1,3 +1,4 @@
 pub mod Walk
 pub mod Ranges
 pub mod Filling
+pub mod Scans

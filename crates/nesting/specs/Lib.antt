@@ -2,3 +2,4 @@ pub mod Faults
 pub mod Unsealed
 pub mod Of
 pub mod Parts
+pub mod Forks

@@ -2,6 +2,7 @@
 
 mod domains;
 pub mod faults;
+mod forks;
 mod parts;
 pub mod sealed;
 pub mod sealing;
