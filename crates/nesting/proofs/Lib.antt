@@ -2,3 +2,4 @@ pub mod Walk
 pub mod Ranges
 pub mod Filling
 pub mod Scans
+pub mod Links

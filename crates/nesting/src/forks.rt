@@ -3,11 +3,14 @@ ghost use Prim.Native.Nat.{ℕ, _<_};
 ghost use lib.Dec.{T};
 ghost use lib.ListN.{length};
 ghost use Rattle.std.specs.Options.{Cases as BySome};
+ghost use Rattle.model.specs.Paths.{Path*};
 ghost use Rattle.formats.specs.Sections.{Lowest};
+ghost use Rattle.graphs.specs.Graphs.{Joins};
 ghost use Rattle.graphs.specs.Rows.{Holds};
-ghost use Rattle.nesting.specs.Forks.{Stays, Edges-stay};
+ghost use Rattle.nesting.specs.Forks.{Stays, Edges-stay, Linked};
 ghost use Rattle.nesting.specs.Parts.{parts-spec};
 use crate::parts::Parts;
+use graphs::graph::Graph;
 use graphs::row::Row;
 use graphs::row::VERTICES;
 
@@ -54,6 +57,36 @@ impl Parts<'_> {
             let tail = e.tail as usize;
             let head = e.head as usize;
             if !stays(row, head, tail, source) || !stays(row, tail, head, sink) {
+                return false;
+            }
+        }
+        true
+    }
+
+    /// The edges within the row, in both directions.
+    fn links(&self, row: &Row) -> Graph
+        ensures { λ r. ⌜ ((x y : ℕ) → Joins r x y ↔ Linked (parts-spec (now (self .entry))) (now (row .entry)) x y) ⌝ }
+    {
+        let mut graph = Graph::new();
+        for e in self.edges {
+            let tail = e.tail as usize;
+            let head = e.head as usize;
+            if row.has(tail) && row.has(head) {
+                graph.add(tail, head);
+                graph.add(head, tail);
+            }
+        }
+        graph
+    }
+
+    /// Whether edges within the row, taken without direction, lead from `x` to every vertex of the row.
+    fn connects(&self, row: &Row, x: usize) -> bool
+        ensures { λ r. ⌜ T r ↔ ((y : ℕ) → Holds (now (row .entry)) y → Path* (Linked (parts-spec (now (self .entry))) (now (row .entry))) x y) ⌝ }
+    {
+        let mut graph = self.links(row);
+        graph.close();
+        for y in 0..VERTICES {
+            if row.has(y) && y != x && !graph.has(x, y) {
                 return false;
             }
         }

@@ -2,7 +2,7 @@ use borrow.Author.Count.{below-none, below-more}
 use Prim.Native.Nat.{ℕ}
 use denote.Ref.{now}
 use lib.ListN.{getD}
-use Rattle.formats.specs.Specifications.{no-edge, no-ends}
+use Rattle.formats.specs.Specifications.{no-edge}
 use Rattle.nesting.specs.Forks.{Stays}
 use Rattle.nesting.specs.Parts.{parts-spec}
 use Rattle.nesting.proofs.Ranges.{at-listed}
