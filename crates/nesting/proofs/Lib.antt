@@ -3,3 +3,4 @@ pub mod Ranges
 pub mod Filling
 pub mod Scans
 pub mod Links
+pub mod ForkDomains
