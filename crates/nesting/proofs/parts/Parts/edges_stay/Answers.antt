@@ -23,7 +23,7 @@ returns-then-not-stays c =
           elim (c .then-not-stays .came) [
             | then-not-stays·by·then-not-stays w ↦ w .if-not-stays .ensures tt .1 (g .0)
             | then-not-stays·by·else-not-stays·then-not-stays-2 w ↦ w .if-not-stays-2 .ensures tt .1 (g .1)
-          ]
+          ],
     )
 
 pub loop-e-again : need.loop-e-again
