@@ -10,3 +10,6 @@ pub mod EndLaws
 pub mod LoopLaws
 pub mod SealedLaws
 pub mod Decided
+pub mod Scans
+pub mod Links
+pub mod ForkDomains
