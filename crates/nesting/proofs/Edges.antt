@@ -16,12 +16,6 @@ use Rattle.graphs.specs.declared.row.Row.{Row}
 use Rattle.nesting.specs.Parts.{tail-at, head-at}
 use Rattle.nesting.proofs.Ranges.{listed-at, at-listed}
 
--- what holds of each edge by index holds of each edge
-pub each-edge : (es : List SpecEdge) (P : ℕ → ℕ → Type 0) → ((i : ℕ) → i < length es → P (tail-at es i) (head-at es i)) → (x y : ℕ) → T (listed es x y) → P x y
-each-edge es P f x y t =
-    let w = listed-at es x y t in
-    subst (λ (v : ℕ). P x v) (w .3) (subst (λ (v : ℕ). P v (head-at es (w .0))) (w .2) (f (w .0) (w .1)))
-
 -- the graph has the first n edges
 abbrev pub Drawn : List SpecEdge → Graph → ℕ → Type 0
 Drawn es g n = (x y : ℕ) → Joins g x y ↔ ((i : ℕ) × (i < n) × (tail-at es i ≡ x) × (head-at es i ≡ y))

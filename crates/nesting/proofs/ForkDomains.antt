@@ -1,24 +1,17 @@
 -- The rule of a fork's domain, as the code tests it on rows of vertices.
-use denote.Ref.{now}
 use mathlib.Core.Logic.{_⊎_, _↔_, inl, inr}
-use mathlib.Core.Path.{_≡_, ap}
+use mathlib.Core.Path.{_≡_}
 use Prim.Native.Nat.{ℕ, _≤_, _<_}
-use native.Mathlib.Omega.{arith}
-use Rattle.std.proofs.shelf.Lists.{getD-past}
-use Rattle.std.proofs.shelf.Tests.{cases-lt}
 use Rattle.model.specs.Paths.{Path*}
 use Rattle.model.specs.Specifications.{Spec, Domain, Link, Fork-domain}
 use Rattle.model.proofs.Cases.{cases}
-use Rattle.model.proofs.Chains.{chain-le}
 use Rattle.model.proofs.Paths.{path-join, path-map, path-turn}
-use Rattle.formats.specs.Specifications.{no-vertex}
-use Rattle.formats.specs.declared.kinds.Vertex.{Vertex}
 use Rattle.graphs.specs.Rows.{Holds}
 use Rattle.graphs.specs.declared.row.Row.{Row}
 use Rattle.nesting.specs.Forks.{Edges-stay, Linked}
 use Rattle.nesting.specs.Parts.{parts-spec, Holds-domain, Holds-heads, Holds-tails}
 use Rattle.nesting.specs.declared.parts.Parts.{Parts}
-use Rattle.nesting.proofs.Ranges.{falls-of}
+use Rattle.nesting.proofs.InDomain.{domain-low}
 
 -- The row keeps the rule: neither source nor sink is in it, each of its vertices has an edge into it and one out of it, edges keep to it,
 -- and edges within it connect x with each of its vertices.
@@ -71,12 +64,6 @@ module _ (s : Spec) (k : ℕ) (row heads tails : Row)
     connects = λ y i.
         path-map (λ a b l. (thus a (l .0), thus b (l .1), l .2)) (f .connected x y (held x .0 h .0) (held y .0 i .0) (so x h) (so y i));
   }
-
--- past the last vertex a home is 0, and parents of 0 lead to no other block
-pub domain-low : (p : Parts) (k : ℕ) → 0 < k → (x : ℕ) → Domain (parts-spec p) k x → x < parts-spec p .n
-domain-low p k z x d = cases (cases-lt x (parts-spec p .n)) (λ l. l) (λ l.
-    let e : parts-spec p .home x ≡ 0 = ap (λ (v : Vertex). v .home) (getD-past (now (p .vertices)) x no-vertex l) in
-    absurd (omega (arith, e, chain-le (falls-of (now (p .nests)) (p .rooted) (p .nested)) d)))
 
 -- the rule of forks on the lent tables
 module _ (p : Parts) (k : ℕ) (row heads tails : Row) (above : 0 < k)

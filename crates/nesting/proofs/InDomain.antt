@@ -1,31 +1,28 @@
--- A row that holds a block's domain.
-use mathlib.Core.List.{List}
-use mathlib.Core.Logic.{_↔_, inl, inr}
-use mathlib.Core.Path.{_≡_, ap, subst}
+-- A row that holds the domain of a block of the lent tables.
+use mathlib.Core.Logic.{_↔_}
+use mathlib.Core.Path.{_≡_, ap}
 use Prim.Native.Nat.{ℕ, _<_}
 use native.Mathlib.Omega.{arith}
-use lib.ListN.{length}
+use denote.Ref.{now}
 use Rattle.std.proofs.shelf.Lists.{getD-past}
 use Rattle.std.proofs.shelf.Tests.{cases-lt}
-use Rattle.model.specs.Forests.{Chain, Falls}
-use Rattle.model.specs.Specifications.{Spec, Domain}
+use Rattle.model.specs.Specifications.{Domain}
+use Rattle.model.proofs.Cases.{cases}
 use Rattle.model.proofs.Chains.{chain-le}
-use Rattle.formats.specs.Specifications.{no-vertex, spec-from}
-use Rattle.formats.specs.declared.kinds.SpecEdge.{SpecEdge}
+use Rattle.formats.specs.Specifications.{no-vertex}
 use Rattle.formats.specs.declared.kinds.Vertex.{Vertex}
-use Rattle.formats.specs.declared.kinds.Nest.{Nest}
-use Rattle.formats.specs.declared.kinds.Ends.{Ends}
 use Rattle.graphs.specs.Rows.{Holds}
 use Rattle.graphs.specs.declared.row.Row.{Row}
-use Rattle.nesting.specs.Parts.{Holds-domain}
+use Rattle.nesting.specs.Parts.{parts-spec, Holds-domain}
+use Rattle.nesting.specs.declared.parts.Parts.{Parts}
+use Rattle.nesting.proofs.Ranges.{falls-of}
 
--- beyond the vertices there is no domain but that of block 0
-pub domain-range : (es : List SpecEdge) (vs : List Vertex) (ns : List Nest) (xs : List Ends) (k x : ℕ) → Falls (spec-from es vs ns xs .above) → 0 < k → Domain (spec-from es vs ns xs) k x → x < length vs
-domain-range es vs ns xs k x f z d = elim (cases-lt x (length vs)) [
-  | inl h ↦ h
-  | inr h ↦ absurd (omega (arith, chain-le f (subst (λ (i : ℕ). Chain (spec-from es vs ns xs .above) i k) (ap (λ (v : Vertex). v .home) (getD-past vs x no-vertex h)) d)))
-]
+-- past the last vertex a home is 0, and parents of 0 lead to no other block
+pub domain-low : (p : Parts) (k : ℕ) → 0 < k → (x : ℕ) → Domain (parts-spec p) k x → x < parts-spec p .n
+domain-low p k z x d = cases (cases-lt x (parts-spec p .n)) (λ l. l) (λ l.
+    let e : parts-spec p .home x ≡ 0 = ap (λ (v : Vertex). v .home) (getD-past (now (p .vertices)) x no-vertex l) in
+    absurd (omega (arith, e, chain-le (falls-of (now (p .nests)) (p .rooted) (p .nested)) d)))
 
 -- for a block but 0 the row holds just the vertices of its domain
-pub in-row : (s : Spec) (k : ℕ) (row : Row) → ((x : ℕ) → Domain s k x → x < s .n) → Holds-domain s k row → (x : ℕ) → Holds row x ↔ Domain s k x
-in-row s k row r h x = ((λ a. h x .0 a .1), λ d. h x .1 (r x d, d))
+pub in-row : (p : Parts) (k : ℕ) (row : Row) → 0 < k → Holds-domain (parts-spec p) k row → (x : ℕ) → Holds row x ↔ Domain (parts-spec p) k x
+in-row p k row z h x = ((λ a. h x .0 a .1), λ d. h x .1 (domain-low p k z x d, d))

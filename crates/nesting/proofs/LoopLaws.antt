@@ -3,6 +3,7 @@ use mathlib.Core.List.{List}
 use mathlib.Core.Logic.{_≢_, _⊎_, _↔_, inl, inr}
 use mathlib.Core.Path.{_≡_, refl, sym, subst}
 use Prim.Native.Nat.{ℕ, _<_}
+use native.Mathlib.Omega.{arith}
 use lib.Dec.{T}
 use denote.Ref.{now}
 use lib.ListN.{length, getD}
@@ -16,9 +17,8 @@ use Rattle.graphs.specs.declared.row.Row.{Row}
 use Rattle.nesting.specs.Loops.{Vertex-keeps, Edge-keeps}
 use Rattle.nesting.specs.Parts.{parts-spec, Holds-domain, Holds-heads, Holds-tails, tail-at, head-at}
 use Rattle.nesting.specs.declared.parts.Parts.{Parts}
-use Rattle.nesting.proofs.InDomain.{domain-range, in-row}
-use Rattle.nesting.proofs.PartRanges.{parts-ranges}
-use Rattle.nesting.proofs.Edges.{each-edge}
+use Rattle.nesting.proofs.InDomain.{in-row}
+use Rattle.nesting.proofs.Scans.{each-edge}
 use Rattle.nesting.proofs.Ranges.{at-listed}
 
 -- P, or else Q, where P is an equation
@@ -45,7 +45,7 @@ module _ (s : Spec) (k : ℕ) (es : List SpecEdge) (e : Ends) (domain heads tail
   sink-is = rw ends-are
 
   edges-keep : Tests → (x y : ℕ) → Edge s x y → Edge-keeps domain e x y
-  edges-keep t x y d = each-edge es (Edge-keeps domain e) (t .3) x y (subst (λ (f : ℕ → ℕ → _). T (f x y)) edges-are d)
+  edges-keep t x y d = each-edge es (Edge-keeps domain e) (length es) (omega arith) (t .3) x y (subst (λ (f : ℕ → ℕ → _). T (f x y)) edges-are d)
 
   pub loop-of : Tests → Loop-rule s k
   loop-of t = record {
@@ -82,5 +82,4 @@ loop-tested p k domain heads tails z d h t =
     let s = parts-spec p in
     let e = getD (now (p .ends)) k no-ends in
     let es = now (p .edges) in
-    let r : (x : ℕ) → Domain s k x → x < s .n = λ x. domain-range es (now (p .vertices)) (now (p .nests)) (now (p .ends)) k x (parts-ranges p .nest) z in
-    (loop-of s k es e domain heads tails refl refl (in-row s k domain r d) h t, tests-of s k es e domain heads tails refl refl (in-row s k domain r d) h t)
+    (loop-of s k es e domain heads tails refl refl (in-row p k domain z d) h t, tests-of s k es e domain heads tails refl refl (in-row p k domain z d) h t)

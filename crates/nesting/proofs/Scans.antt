@@ -17,7 +17,7 @@ use Rattle.nesting.proofs.Ranges.{listed-at, at-listed}
 pub each-held : (P : ℕ → Type 0) (row : Row) (n : ℕ) → vertices ≤ n → ((x : ℕ) → x < n → Holds row x → P x) → (x : ℕ) → Holds row x → P x
 each-held P row n l f x h = f x (omega (arith, l, holds-range row x h)) h
 
--- what holds of the tail and the head of each of m edges, of all there are, holds of any x and y with an edge
+-- what holds of the tail and the head of each edge, by its index below m, holds of any x and y with an edge, where m is as large as the list
 pub each-edge : (es : List SpecEdge) (P : ℕ → ℕ → Type 0) (m : ℕ) → length es ≤ m → ((i : ℕ) → i < m → P (getD es i no-edge .tail) (getD es i no-edge .head)) → (x y : ℕ) → T (listed es x y) → P x y
 each-edge es P m l f x y t =
     let w = listed-at es x y t in
