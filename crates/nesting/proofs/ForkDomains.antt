@@ -1,7 +1,6 @@
 -- The rule of a fork's domain, as the code tests it on rows of vertices.
-use mathlib.Core.Logic.{_⊎_, _↔_, inl, inr}
-use mathlib.Core.Path.{_≡_}
-use Prim.Native.Nat.{ℕ, _≤_, _<_}
+use mathlib.Core.Logic.{_↔_, inl, inr}
+use Prim.Native.Nat.{ℕ, _<_}
 use Rattle.model.specs.Paths.{Path*}
 use Rattle.model.specs.Specifications.{Spec, Domain, Link, Fork-domain}
 use Rattle.model.proofs.Cases.{cases}

@@ -2,13 +2,13 @@
 use mathlib.Core.List.{List}
 use mathlib.Core.Logic.{_⊎_, _≢_, _↔_, inl, inr}
 use mathlib.Core.Path.{_≡_, sym, subst}
-use Prim.Native.Nat.{ℕ, _+_, _≤_, _<_}
+use Prim.Native.Nat.{ℕ, _+_, _<_}
 use native.Mathlib.Omega.{arith}
 use lib.Dec.{T}
 use lib.ListN.{length, getD}
 use Rattle.std.proofs.shelf.Tests.{cases-eq}
 use Rattle.model.specs.Paths.{Path*, Path⁺, step}
-use Rattle.model.proofs.Paths.{path-map, path-last}
+use Rattle.model.proofs.Paths.{path-last}
 use Rattle.formats.specs.Specifications.{no-edge, listed}
 use Rattle.formats.specs.declared.kinds.SpecEdge.{SpecEdge}
 use Rattle.graphs.proofs.Closing.{path⁺-map}

@@ -20,3 +20,6 @@ returns c = (
   (λ t. each-held (Holds (c .args .other .now)) (c .args .row .now) (c .loop-x .x) (c .loop-x-test .left) (c .loop-x .inv)),
   λ f. tt,
 )
+
+pub returns-then-not-has : need.returns-then-not-has
+returns-then-not-has c = ((λ t. absurd t), λ f. c .if-not-has .ensures tt .1 (f (c .loop-x .x) (c .if-has .ensures tt .0 tt)))

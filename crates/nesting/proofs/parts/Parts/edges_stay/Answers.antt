@@ -1,5 +1,4 @@
 use borrow.Author.Count.{below-none, below-more}
-use Prim.Native.Nat.{ℕ}
 use denote.Ref.{now}
 use lib.ListN.{getD}
 use Rattle.formats.specs.Specifications.{no-edge}

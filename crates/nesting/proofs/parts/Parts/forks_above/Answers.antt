@@ -23,3 +23,9 @@ loop-j-again c =
 
 pub returns : need.returns
 returns c = ((λ t i z l. c .loop-j .inv i (omega arith) z), λ f. tt)
+
+pub returns-then-not-leads-up : need.returns-then-not-leads-up
+returns-then-not-leads-up c = (
+  (λ t. absurd t),
+  λ f. c .if-not-leads-up .ensures tt .1 (f (c .loop-j .j) (c .loop-j .kept .j) (c .loop-j-test .taken) (c .if-is-fork .ensures tt .0 tt) (c .if-leads-up .ensures tt .0 tt)),
+)
