@@ -59,7 +59,7 @@ Ascending bytes base count = (i : ℕ) → 0 < i → i < count → Ascends bytes
 abbrev pub Unordered : List ℕ → ℕ → ℕ → ℕ → Type 0
 Unordered bytes base count p = (i : ℕ) × (0 < i) × (i < count) × (p ≡ first-at base count i) × (¬ (Ascends bytes base count i))
 
--- what a search of the indices below count came to: each was good, or the first that was not, told by its place
+-- what trying the indices below count in turn came to: each was good, or the first that was not, told by its place
 abbrev pub Scanned : (ℕ → Type 0) → (ℕ → ℕ) → ℕ → Option ℕ → Type 0
 Scanned Good place count None = (i : ℕ) → i < count → Good i
 Scanned Good place count (Some p) = (i : ℕ) × (i < count) × (p ≡ place i) × (¬ (Good i)) × ((j : ℕ) → j < i → Good j)
