@@ -79,20 +79,20 @@ impl<'a> SpecFile<'a> {
         }
     }
 
-    pub fn edges(&self) -> Section<'a, SpecEdge>
-        ensures { λ r. ⌜ (now (r .bytes) ≡ now (now (self .entry) .bytes)) × (r .base ≡ edges-from (now (now (self .entry) .bytes))) × (r .count ≡ m-of (now (now (self .entry) .bytes))) ⌝ }
+    pub fn edges(self) -> Section<'a, SpecEdge>
+        ensures { λ r. ⌜ (now (r .bytes) ≡ now (self .entry .bytes)) × (r .base ≡ edges-from (now (self .entry .bytes))) × (r .count ≡ m-of (now (self .entry .bytes))) ⌝ }
     {
         Section::new(self.bytes, 6, self.edges)
     }
 
-    pub fn vertices(&self) -> Section<'a, Vertex>
-        ensures { λ r. ⌜ (now (r .bytes) ≡ now (now (self .entry) .bytes)) × (r .base ≡ vertices-from (now (now (self .entry) .bytes))) × (r .count ≡ n-of (now (now (self .entry) .bytes))) ⌝ }
+    pub fn vertices(self) -> Section<'a, Vertex>
+        ensures { λ r. ⌜ (now (r .bytes) ≡ now (self .entry .bytes)) × (r .base ≡ vertices-from (now (self .entry .bytes))) × (r .count ≡ n-of (now (self .entry .bytes))) ⌝ }
     {
         Section::new(self.bytes, 6 + 4 * self.edges as usize, self.vertices)
     }
 
-    pub fn nests(&self) -> Section<'a, Nest>
-        ensures { λ r. ⌜ (now (r .bytes) ≡ now (now (self .entry) .bytes)) × (r .base ≡ nests-from (now (now (self .entry) .bytes))) × (r .count ≡ b-of (now (now (self .entry) .bytes))) ⌝ }
+    pub fn nests(self) -> Section<'a, Nest>
+        ensures { λ r. ⌜ (now (r .bytes) ≡ now (self .entry .bytes)) × (r .base ≡ nests-from (now (self .entry .bytes))) × (r .count ≡ b-of (now (self .entry .bytes))) ⌝ }
     {
         Section::new(
             self.bytes,
@@ -101,8 +101,8 @@ impl<'a> SpecFile<'a> {
         )
     }
 
-    pub fn ends(&self) -> Section<'a, Ends>
-        ensures { λ r. ⌜ (now (r .bytes) ≡ now (now (self .entry) .bytes)) × (r .base ≡ ends-from (now (now (self .entry) .bytes))) × (r .count ≡ b-of (now (now (self .entry) .bytes))) ⌝ }
+    pub fn ends(self) -> Section<'a, Ends>
+        ensures { λ r. ⌜ (now (r .bytes) ≡ now (self .entry .bytes)) × (r .base ≡ ends-from (now (self .entry .bytes))) × (r .count ≡ b-of (now (self .entry .bytes))) ⌝ }
     {
         Section::new(
             self.bytes,
@@ -111,8 +111,8 @@ impl<'a> SpecFile<'a> {
         )
     }
 
-    fn bounds(&self) -> Bounds
-        ensures { λ r. ⌜ r ≡ spec-bounds (now (now (self .entry) .bytes)) ⌝ }
+    fn bounds(self) -> Bounds
+        ensures { λ r. ⌜ r ≡ spec-bounds (now (self .entry .bytes)) ⌝ }
     {
         Bounds {
             vertices: self.vertices,
@@ -123,8 +123,8 @@ impl<'a> SpecFile<'a> {
     }
 
     /// The lowest byte position of a number outside its range, in any section.
-    pub fn outside(&self) -> Option<usize>
-        ensures { λ r. ⌜ BySome r (All-inside (now (now (self .entry) .bytes))) (Lowest (Number-outside (now (now (self .entry) .bytes)))) ⌝ }
+    pub fn outside(self) -> Option<usize>
+        ensures { λ r. ⌜ BySome r (All-inside (now (self .entry .bytes))) (Lowest (Number-outside (now (self .entry .bytes)))) ⌝ }
     {
         let bounds = self.bounds();
         if let Some(at) = self.edges().outside(bounds) {
@@ -140,9 +140,9 @@ impl<'a> SpecFile<'a> {
     }
 
     /// The specification that the file states.
-    fn specification(&self) -> Specification
-        requires { ⌜ All-inside (now (now self .bytes)) ⌝ }
-        ensures { λ r. ⌜ States (now (now (self .entry) .bytes)) r ⌝ }
+    fn specification(self) -> Specification
+        requires { ⌜ All-inside (now (self .bytes)) ⌝ }
+        ensures { λ r. ⌜ States (now (self .entry .bytes)) r ⌝ }
     {
         let edges = self.edges().table();
         let vertices = self.vertices().table();

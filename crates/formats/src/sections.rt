@@ -32,7 +32,6 @@ impl Span {
 }
 
 /// A section of one kind of record, read where it lies: `count` records from byte `base`.
-#[derive(Drop)]
 pub struct Section<'a, R> {
     bytes: &'a [u8],
     base: usize,
@@ -40,6 +39,8 @@ pub struct Section<'a, R> {
     kind: PhantomData<R>,
     ghost inside: { base + 4 * count ≤ length (now bytes) },
 }
+
+impl<'a, R> Copy for Section<'a, R> {}
 
 impl<'a, R: Record> Section<'a, R> {
     pub(crate) fn new(bytes: &'a [u8], base: usize, count: u16) -> Self
@@ -62,16 +63,16 @@ impl<'a, R: Record> Section<'a, R> {
         floor <= size as usize && size as usize <= ceiling
     }
 
-    pub(crate) fn first(&self, i: u16) -> u16
-        requires { ⌜ i < now self .count ⌝ }
-        ensures { λ r. ⌜ r ≡ word (now (now (self .entry) .bytes)) (first-at (now (self .entry) .base) (now (self .entry) .count) i) ⌝ }
+    pub(crate) fn first(self, i: u16) -> u16
+        requires { ⌜ i < self .count ⌝ }
+        ensures { λ r. ⌜ r ≡ word (now (self .entry .bytes)) (first-at (self .entry .base) (self .entry .count) i) ⌝ }
     {
         word_at(self.bytes, self.base + 2 * i as usize)
     }
 
-    pub(crate) fn second(&self, i: u16) -> u16
-        requires { ⌜ i < now self .count ⌝ }
-        ensures { λ r. ⌜ r ≡ word (now (now (self .entry) .bytes)) (second-at (now (self .entry) .base) (now (self .entry) .count) i) ⌝ }
+    pub(crate) fn second(self, i: u16) -> u16
+        requires { ⌜ i < self .count ⌝ }
+        ensures { λ r. ⌜ r ≡ word (now (self .entry .bytes)) (second-at (self .entry .base) (self .entry .count) i) ⌝ }
     {
         word_at(
             self.bytes,
@@ -80,22 +81,22 @@ impl<'a, R: Record> Section<'a, R> {
     }
 
     /// The record numbered `i`.
-    pub(crate) fn at(&self, i: u16) -> R
-        requires { ⌜ i < now self .count ⌝ }
-        ensures { λ r. ⌜ r ≡ stated (R·Record .made) (now (now (self .entry) .bytes)) (now (self .entry) .base) (now (self .entry) .count) i ⌝ }
+    pub(crate) fn at(self, i: u16) -> R
+        requires { ⌜ i < self .count ⌝ }
+        ensures { λ r. ⌜ r ≡ stated (R·Record .made) (now (self .entry .bytes)) (self .entry .base) (self .entry .count) i ⌝ }
     {
         R::make(self.first(i), self.second(i))
     }
 
-    fn first_fits(&self, bounds: Bounds, i: u16) -> bool
-        requires { ⌜ i < now self .count ⌝ }
-        ensures { λ r. ⌜ T r ↔ First-within (R·Record .kind) bounds (now (now (self .entry) .bytes)) (now (self .entry) .base) (now (self .entry) .count) i ⌝ }
+    fn first_fits(self, bounds: Bounds, i: u16) -> bool
+        requires { ⌜ i < self .count ⌝ }
+        ensures { λ r. ⌜ T r ↔ First-within (R·Record .kind) bounds (now (self .entry .bytes)) (self .entry .base) (self .entry .count) i ⌝ }
     {
         R::first_span(bounds, i).holds(self.first(i))
     }
 
-    fn first_outside(&self, bounds: Bounds) -> Option<usize>
-        ensures { λ r. ⌜ Scanned (First-within (R·Record .kind) bounds (now (now (self .entry) .bytes)) (now (self .entry) .base) (now (self .entry) .count)) (first-at (now (self .entry) .base) (now (self .entry) .count)) (now (self .entry) .count) r ⌝ }
+    fn first_outside(self, bounds: Bounds) -> Option<usize>
+        ensures { λ r. ⌜ Scanned (First-within (R·Record .kind) bounds (now (self .entry .bytes)) (self .entry .base) (self .entry .count)) (first-at (self .entry .base) (self .entry .count)) (self .entry .count) r ⌝ }
     {
         for i in 0..self.count {
             if !self.first_fits(bounds, i) {
@@ -105,15 +106,15 @@ impl<'a, R: Record> Section<'a, R> {
         None
     }
 
-    fn second_fits(&self, bounds: Bounds, i: u16) -> bool
-        requires { ⌜ i < now self .count ⌝ }
-        ensures { λ r. ⌜ T r ↔ Second-within (R·Record .kind) bounds (now (now (self .entry) .bytes)) (now (self .entry) .base) (now (self .entry) .count) i ⌝ }
+    fn second_fits(self, bounds: Bounds, i: u16) -> bool
+        requires { ⌜ i < self .count ⌝ }
+        ensures { λ r. ⌜ T r ↔ Second-within (R·Record .kind) bounds (now (self .entry .bytes)) (self .entry .base) (self .entry .count) i ⌝ }
     {
         R::second_span(bounds, i).holds(self.second(i))
     }
 
-    fn second_outside(&self, bounds: Bounds) -> Option<usize>
-        ensures { λ r. ⌜ Scanned (Second-within (R·Record .kind) bounds (now (now (self .entry) .bytes)) (now (self .entry) .base) (now (self .entry) .count)) (second-at (now (self .entry) .base) (now (self .entry) .count)) (now (self .entry) .count) r ⌝ }
+    fn second_outside(self, bounds: Bounds) -> Option<usize>
+        ensures { λ r. ⌜ Scanned (Second-within (R·Record .kind) bounds (now (self .entry .bytes)) (self .entry .base) (self .entry .count)) (second-at (self .entry .base) (self .entry .count)) (self .entry .count) r ⌝ }
     {
         for i in 0..self.count {
             if !self.second_fits(bounds, i) {
@@ -124,8 +125,8 @@ impl<'a, R: Record> Section<'a, R> {
     }
 
     /// The lowest byte position of a number that lies outside its range.
-    pub fn outside(&self, bounds: Bounds) -> Option<usize>
-        ensures { λ r. ⌜ BySome r (Inside (R·Record .kind) bounds (now (now (self .entry) .bytes)) (now (self .entry) .base) (now (self .entry) .count)) (Lowest (Outside (R·Record .kind) bounds (now (now (self .entry) .bytes)) (now (self .entry) .base) (now (self .entry) .count))) ⌝ }
+    pub fn outside(self, bounds: Bounds) -> Option<usize>
+        ensures { λ r. ⌜ BySome r (Inside (R·Record .kind) bounds (now (self .entry .bytes)) (self .entry .base) (self .entry .count)) (Lowest (Outside (R·Record .kind) bounds (now (self .entry .bytes)) (self .entry .base) (self .entry .count))) ⌝ }
     {
         match self.first_outside(bounds) {
             Some(at) => Some(at),
@@ -134,9 +135,9 @@ impl<'a, R: Record> Section<'a, R> {
     }
 
     /// Whether record `i` is above the record before it.
-    fn ascends(&self, i: u16) -> bool
-        requires { ⌜ 0 < i ⌝ ∗ ⌜ i < now self .count ⌝ }
-        ensures { λ r. ⌜ T r ↔ Ascends (now (now (self .entry) .bytes)) (now (self .entry) .base) (now (self .entry) .count) i ⌝ }
+    fn ascends(self, i: u16) -> bool
+        requires { ⌜ 0 < i ⌝ ∗ ⌜ i < self .count ⌝ }
+        ensures { λ r. ⌜ T r ↔ Ascends (now (self .entry .bytes)) (self .entry .base) (self .entry .count) i ⌝ }
     {
         let tail = self.first(i);
         let before = self.first(i - 1);
@@ -144,8 +145,8 @@ impl<'a, R: Record> Section<'a, R> {
     }
 
     /// The byte position of the first record that is not above the record before it.
-    pub fn unordered(&self) -> Option<usize>
-        ensures { λ r. ⌜ BySome r (Ascending (now (now (self .entry) .bytes)) (now (self .entry) .base) (now (self .entry) .count)) (Lowest (Unordered (now (now (self .entry) .bytes)) (now (self .entry) .base) (now (self .entry) .count))) ⌝ }
+    pub fn unordered(self) -> Option<usize>
+        ensures { λ r. ⌜ BySome r (Ascending (now (self .entry .bytes)) (self .entry .base) (self .entry .count)) (Lowest (Unordered (now (self .entry .bytes)) (self .entry .base) (self .entry .count))) ⌝ }
     {
         for i in 1..self.count {
             if !self.ascends(i) {
@@ -156,9 +157,9 @@ impl<'a, R: Record> Section<'a, R> {
     }
 
     /// All records, copied to a table.
-    pub(crate) fn table<const N: usize>(&self) -> Table<R, N>
-        requires { ⌜ now self .count ≤ N ⌝ }
-        ensures { λ r. ⌜ kept r ≡ section (R·Record .made) (now (now (self .entry) .bytes)) (now (self .entry) .base) (now (self .entry) .count) ⌝ }
+    pub(crate) fn table<const N: usize>(self) -> Table<R, N>
+        requires { ⌜ self .count ≤ N ⌝ }
+        ensures { λ r. ⌜ kept r ≡ section (R·Record .made) (now (self .entry .bytes)) (self .entry .base) (self .entry .count) ⌝ }
     {
         let mut table = Table::new(R::make(0, 0));
         for i in 0..self.count {

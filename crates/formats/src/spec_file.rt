@@ -3,7 +3,7 @@ ghost use denote.Ref.{now};
 ghost use Rattle.formats.specs.SpecFiles.{Framed, n-of, m-of, b-of};
 
 /// The bytes of a specification file whose sizes and length are right.
-#[derive(Drop)]
+#[derive(Clone, Copy)]
 pub struct SpecFile<'a> {
     pub(crate) bytes: &'a [u8],
     pub(crate) vertices: u16,

@@ -9,8 +9,8 @@ use Rattle.formats.proofs.spec_file.SpecFile.specification.Needs as need
 
 pub ghost-result : need.ghost-result
 ghost-result c =
-    let bytes = now (c .args .self .now .bytes) in
-    let framed = c .args .self .now .framed in
+    let bytes = now (c .args .self .bytes) in
+    let framed = c .args .self .framed in
     let e = c .edges .ensures in
     let v = c .vertices .ensures in
     let n = c .nests .ensures in
