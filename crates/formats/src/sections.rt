@@ -42,7 +42,7 @@ pub struct Section<'a, R> {
 
 impl<'a, R> Copy for Section<'a, R> {}
 
-impl<'a, R: Record> Section<'a, R> {
+impl<'a, R> Section<'a, R> {
     pub(crate) fn new(bytes: &'a [u8], base: usize, count: u16) -> Self
         requires { ⌜ base + 4 * count ≤ length (now bytes) ⌝ }
         ensures { λ r. ⌜ (now (r .bytes) ≡ now (bytes .entry)) × (r .base ≡ base) × (r .count ≡ count) ⌝ }
@@ -53,14 +53,6 @@ impl<'a, R: Record> Section<'a, R> {
             count,
             kind: PhantomData,
         }
-    }
-
-    /// Whether a section of this kind may have `size` records.
-    pub fn may_have(size: u16) -> bool
-        ensures { λ r. ⌜ T r ↔ Fits (R·Record .kind) size ⌝ }
-    {
-        let (floor, ceiling) = R::limits();
-        floor <= size as usize && size as usize <= ceiling
     }
 
     pub(crate) fn first(self, i: u16) -> u16
@@ -78,6 +70,38 @@ impl<'a, R: Record> Section<'a, R> {
             self.bytes,
             self.base + 2 * (self.count as usize + i as usize),
         )
+    }
+
+    /// Whether record `i` is above the record before it.
+    fn ascends(self, i: u16) -> bool
+        requires { ⌜ 0 < i ⌝ ∗ ⌜ i < self .count ⌝ }
+        ensures { λ r. ⌜ T r ↔ Ascends (now (self .entry .bytes)) (self .entry .base) (self .entry .count) i ⌝ }
+    {
+        let tail = self.first(i);
+        let before = self.first(i - 1);
+        before < tail || before == tail && self.second(i - 1) < self.second(i)
+    }
+
+    /// The byte position of the first record that is not above the record before it.
+    pub fn unordered(self) -> Option<usize>
+        ensures { λ r. ⌜ BySome r (Ascending (now (self .entry .bytes)) (self .entry .base) (self .entry .count)) (Lowest (Unordered (now (self .entry .bytes)) (self .entry .base) (self .entry .count))) ⌝ }
+    {
+        for i in 1..self.count {
+            if !self.ascends(i) {
+                return Some(self.base + 2 * i as usize);
+            }
+        }
+        None
+    }
+}
+
+impl<'a, R: Record> Section<'a, R> {
+    /// Whether a section of this kind may have `size` records.
+    pub fn may_have(size: u16) -> bool
+        ensures { λ r. ⌜ T r ↔ Fits (R·Record .kind) size ⌝ }
+    {
+        let (floor, ceiling) = R::limits();
+        floor <= size as usize && size as usize <= ceiling
     }
 
     /// The record numbered `i`.
@@ -132,28 +156,6 @@ impl<'a, R: Record> Section<'a, R> {
             Some(at) => Some(at),
             None => self.second_outside(bounds),
         }
-    }
-
-    /// Whether record `i` is above the record before it.
-    fn ascends(self, i: u16) -> bool
-        requires { ⌜ 0 < i ⌝ ∗ ⌜ i < self .count ⌝ }
-        ensures { λ r. ⌜ T r ↔ Ascends (now (self .entry .bytes)) (self .entry .base) (self .entry .count) i ⌝ }
-    {
-        let tail = self.first(i);
-        let before = self.first(i - 1);
-        before < tail || before == tail && self.second(i - 1) < self.second(i)
-    }
-
-    /// The byte position of the first record that is not above the record before it.
-    pub fn unordered(self) -> Option<usize>
-        ensures { λ r. ⌜ BySome r (Ascending (now (self .entry .bytes)) (self .entry .base) (self .entry .count)) (Lowest (Unordered (now (self .entry .bytes)) (self .entry .base) (self .entry .count))) ⌝ }
-    {
-        for i in 1..self.count {
-            if !self.ascends(i) {
-                return Some(self.base + 2 * i as usize);
-            }
-        }
-        None
     }
 
     /// All records, copied to a table.
