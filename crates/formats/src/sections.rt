@@ -7,7 +7,7 @@ ghost use lib.ListN.{length};
 ghost use Rattle.std.specs.Options.{Cases as BySome};
 ghost use Rattle.formats.specs.Words.{word};
 ghost use Rattle.formats.specs.Kinds.{Fits, Within};
-ghost use Rattle.formats.specs.Sections.{first-at, second-at, First-within, Second-within, Scanned, Inside, Outside, Lowest, Ascends, Ascending, Unordered, stated, section};
+ghost use Rattle.formats.specs.Sections.{first-at, second-at, Number-within, Inside, Outside, Lowest, Ascends, Ascending, Unordered, stated, section};
 ghost use Rattle.formats.specs.Tables.{kept};
 use crate::records::Bounds;
 use crate::records::Record;
@@ -112,50 +112,30 @@ impl<'a, R: Record> Section<'a, R> {
         R::make(self.first(i), self.second(i))
     }
 
-    fn first_fits(self, bounds: Bounds, i: u16) -> bool
-        requires { ⌜ i < self .count ⌝ }
-        ensures { λ r. ⌜ T r ↔ First-within (R·Record .kind) bounds (now (self .entry .bytes)) (self .entry .base) (self .entry .count) i ⌝ }
+    /// Whether number `k` of the section lies in its range.
+    fn fits(self, bounds: Bounds, k: u32) -> bool
+        requires { ⌜ k < 2 * self .count ⌝ }
+        ensures { λ r. ⌜ T r ↔ Number-within (R·Record .kind) bounds (now (self .entry .bytes)) (self .entry .base) (self .entry .count) k ⌝ }
     {
-        R::first_span(bounds, i).holds(self.first(i))
-    }
-
-    fn first_outside(self, bounds: Bounds) -> Option<usize>
-        ensures { λ r. ⌜ Scanned (First-within (R·Record .kind) bounds (now (self .entry .bytes)) (self .entry .base) (self .entry .count)) (first-at (self .entry .base) (self .entry .count)) (self .entry .count) r ⌝ }
-    {
-        for i in 0..self.count {
-            if !self.first_fits(bounds, i) {
-                return Some(self.base + 2 * i as usize);
-            }
+        let number = word_at(self.bytes, self.base + 2 * k as usize);
+        let count = self.count as u32;
+        if k < count {
+            R::first_span(bounds, k as u16).holds(number)
+        } else {
+            R::second_span(bounds, (k - count) as u16).holds(number)
         }
-        None
-    }
-
-    fn second_fits(self, bounds: Bounds, i: u16) -> bool
-        requires { ⌜ i < self .count ⌝ }
-        ensures { λ r. ⌜ T r ↔ Second-within (R·Record .kind) bounds (now (self .entry .bytes)) (self .entry .base) (self .entry .count) i ⌝ }
-    {
-        R::second_span(bounds, i).holds(self.second(i))
-    }
-
-    fn second_outside(self, bounds: Bounds) -> Option<usize>
-        ensures { λ r. ⌜ Scanned (Second-within (R·Record .kind) bounds (now (self .entry .bytes)) (self .entry .base) (self .entry .count)) (second-at (self .entry .base) (self .entry .count)) (self .entry .count) r ⌝ }
-    {
-        for i in 0..self.count {
-            if !self.second_fits(bounds, i) {
-                return Some(self.base + 2 * (self.count as usize + i as usize));
-            }
-        }
-        None
     }
 
     /// The lowest byte position of a number that lies outside its range.
     pub fn outside(self, bounds: Bounds) -> Option<usize>
         ensures { λ r. ⌜ BySome r (Inside (R·Record .kind) bounds (now (self .entry .bytes)) (self .entry .base) (self .entry .count)) (Lowest (Outside (R·Record .kind) bounds (now (self .entry .bytes)) (self .entry .base) (self .entry .count))) ⌝ }
     {
-        match self.first_outside(bounds) {
-            Some(at) => Some(at),
-            None => self.second_outside(bounds),
+        for k in 0..2 * self.count as u32 {
+            if !self.fits(bounds, k) {
+                return Some(self.base + 2 * k as usize);
+            }
         }
+        None
     }
 
     /// All records, copied to a table.
