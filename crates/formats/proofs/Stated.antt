@@ -30,9 +30,14 @@ past-zero i s x h w =
     let e : but-zero i s ≡ s = ap (λ b. cond b (below 1) s) (ne-eqb i 0 (λ e. omega (arith, e))) in
     subst (λ (s : Span). Within s x) e w
 
-pub section-as : {R : Type 0} (made : ℕ → ℕ → R) {bytes bytes′ : List ℕ} {base base′ count count′ : ℕ} → bytes ≡ bytes′ → base ≡ base′ → count ≡ count′
-    → section made bytes base count ≡ section made bytes′ base′ count′
-section-as made a b c = rw (a, b, c)
+-- rows copied from a section, where the section is known under other names
+pub rows-as : {R : Type 0} (made : ℕ → ℕ → R) {rows : List R} {bytes bytes′ : List ℕ} {base base′ count count′ : ℕ} → rows ≡ section made bytes base count
+    → (bytes ≡ bytes′) × (base ≡ base′) × (count ≡ count′) → rows ≡ section made bytes′ base′ count′
+rows-as made r e =
+    let a = e .0 in
+    let b = e .1 in
+    let c = e .2 in
+    r ∙ rw (a, b, c)
 
 module _ {bytes : List ℕ} (framed : Framed bytes) (inside : All-inside bytes)
     {es : List SpecEdge} {vs : List Vertex} {ns : List Nest} {xs : List Ends}
