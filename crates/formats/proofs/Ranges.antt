@@ -56,8 +56,8 @@ module _ (k : Kind) (w : Bounds) (bytes : List ℕ) (base count : ℕ) where
       elim (cases-lt n count) [
         | inl l ↦ first-out n l refl (λ s. f (number-first n l s))
         | inr l ↦
-          let same : count + (n - count) ≡ n = omega arith in
-          second-out (n - count) (omega arith) (omega arith) (λ s. f (subst (Number-within k w bytes base count) same (number-second (n - count) s)))
+            let same : count + (n - count) ≡ n = omega arith in
+            second-out (n - count) (omega arith) (omega arith) (λ s. f (subst (Number-within k w bytes base count) same (number-second (n - count) s)))
       ]
 
   pub lowest-number : (n : ℕ) → n < 2 * count → (¬ (Number-within k w bytes base count n)) → ((j : ℕ) → j < n → Number-within k w bytes base count j) → Lowest (Outside k w bytes base count) (base + 2 * n)

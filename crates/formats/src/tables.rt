@@ -1,7 +1,7 @@
 ghost use mathlib.Core.Path.{_≡_};
 ghost use mathlib.Core.List.{[], _∷_, _++_};
 ghost use mathlib.Core.Bool.{cond};
-ghost use Prim.Native.Nat.{_+_, _≤_};
+ghost use Prim.Native.Nat.{_+_, _<_, _≤_};
 ghost use lib.Dec.{ltb};
 ghost use lib.ListN.{take};
 use std::alloc::AllocError;
@@ -32,6 +32,17 @@ impl<T: Copy, const N: usize> Table<T, N> {
         Table {
             items: [filler; N],
             len: 0,
+        }
+    }
+
+    /// A table of one item.
+    pub(crate) fn only(item: T) -> Self
+        requires { ⌜ 0 < N ⌝ }
+        ensures { λ r. ⌜ take (r .len) (r .items) ≡ item ∷ [] ⌝ }
+    {
+        Table {
+            items: [item; N],
+            len: 1,
         }
     }
 
