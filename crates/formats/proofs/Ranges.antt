@@ -1,7 +1,7 @@
 -- The lowest number outside its range, over the sections of a specification file.
 use mathlib.Core.Bool.{cond}
 use mathlib.Core.List.{List}
-use mathlib.Core.Logic.{_⊎_, inl, inr}
+use mathlib.Core.Logic.{_⊎_, inl, inr, _↔_}
 use mathlib.Core.Path.{_≡_, refl, sym, ap, subst, _∙_}
 use Prim.Native.Nat.{ℕ, _+_, _*_, _-_, _≤_, _<_}
 use native.Mathlib.Omega.{arith}
@@ -36,8 +36,21 @@ module _ (k : Kind) (w : Bounds) (bytes : List ℕ) (base count : ℕ) where
   span-first : (j : ℕ) → j < count → cond (ltb j count) (k .firsts w j) (k .seconds w (j - count)) ≡ k .firsts w j
   span-first j h = ap (λ b. cond b (k .firsts w j) (k .seconds w (j - count))) (lt-ltb j count h)
 
+  span-later : (j : ℕ) → count ≤ j → cond (ltb j count) (k .firsts w j) (k .seconds w (j - count)) ≡ k .seconds w (j - count)
+  span-later j h = ap (λ b. cond b (k .firsts w j) (k .seconds w (j - count))) (le-ltb j count h)
+
   span-second : (j : ℕ) → cond (ltb (count + j) count) (k .firsts w (count + j)) (k .seconds w (count + j - count)) ≡ k .seconds w j
-  span-second j = ap (λ b. cond b (k .firsts w (count + j)) (k .seconds w (count + j - count))) (le-ltb (count + j) count (omega arith)) ∙ ap (k .seconds w) (omega arith)
+  span-second j = span-later (count + j) (omega arith) ∙ ap (k .seconds w) (omega arith)
+
+  -- what a span says of a number, the span and the number under their names in the section
+  told-as : {P : Type 0} {s s′ : Span} {x x′ : ℕ} → s ≡ s′ → x ≡ x′ → (P ↔ Within s x) → (P ↔ Within s′ x′)
+  told-as {P = P} {s′ = s′} {x = x} a b h = subst (λ (y : ℕ). P ↔ Within s′ y) b (subst (λ (t : Span). P ↔ Within t x) a h)
+
+  pub told-first : {P : Type 0} {s : Span} {x : ℕ} (j : ℕ) → j < count → s ≡ k .firsts w j → x ≡ word bytes (base + 2 * j) → (P ↔ Within s x) → (P ↔ Number-within k w bytes base count j)
+  told-first j h a b t = told-as (a ∙ sym (span-first j h)) b t
+
+  pub told-second : {P : Type 0} {s : Span} {x : ℕ} (j : ℕ) → count ≤ j → s ≡ k .seconds w (j - count) → x ≡ word bytes (base + 2 * j) → (P ↔ Within s x) → (P ↔ Number-within k w bytes base count j)
+  told-second j h a b t = told-as (a ∙ sym (span-later j h)) b t
 
   first-number : (j : ℕ) → j < count → Number-within k w bytes base count j → First-within k w bytes base count j
   first-number j h n = subst (λ (s : Span). Within s (word bytes (first-at base count j))) (span-first j h) n
