@@ -6,7 +6,7 @@ use Prim.Native.Nat.{ℕ, _+_, _*_, _≤_}
 use lib.ListN.{length}
 use Rattle.formats.specs.Kinds.{Fits, spec-edge-kind, vertex-kind, nest-kind}
 use Rattle.formats.specs.Sections.{Lowest, Ascending, Unordered}
-use Rattle.formats.specs.SpecFiles.{n-of, m-of, b-of, spec-length, Bad-size, bad-n, bad-m, bad-b, edges-from, Framed, All-inside, Number-outside, Refused, bad-size, bad-length, out-of-range, out-of-order, Accepted, States}
+use Rattle.formats.specs.SpecFiles.{n-of, m-of, b-of, spec-length, bad-n, bad-m, bad-b, edges-from, Framed, All-inside, Number-outside, Refused, bad-size, bad-length, out-of-range, out-of-order, Accepted, States}
 use Rattle.formats.specs.declared.specification.Specification.{Specification}
 
 -- n, m and b as the code read them

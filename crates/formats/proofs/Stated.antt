@@ -1,16 +1,15 @@
 -- A file whose numbers all lie in their ranges states tables whose numbers do.
-use mathlib.Core.Bool.{cond, true, false}
+use mathlib.Core.Bool.{cond}
 use mathlib.Core.List.{List}
-use mathlib.Core.Path.{_≡_, refl, sym, ap, subst, _∙_}
-use Prim.Native.Nat.{ℕ, _≤_, _<_}
+use mathlib.Core.Path.{_≡_, sym, ap, subst, _∙_}
+use Prim.Native.Nat.{ℕ, _<_}
 use native.Mathlib.Omega.{arith}
-use lib.Dec.{eqb}
 use lib.ListN.{length, getD}
 use Rattle.std.proofs.shelf.Counted.{length-map-counting, getD-map-counting}
 use Rattle.std.proofs.shelf.Tests.{ne-eqb}
-use Rattle.formats.specs.Kinds.{Within, spec-edge-kind, vertex-kind, nest-kind, ends-kind, below, but-zero}
-use Rattle.formats.specs.Sections.{Inside, stated, section}
-use Rattle.formats.specs.SpecFiles.{n-of, m-of, b-of, edges-from, vertices-from, nests-from, ends-from, spec-bounds, Framed, All-inside}
+use Rattle.formats.specs.Kinds.{Within, below, but-zero}
+use Rattle.formats.specs.Sections.{stated, section}
+use Rattle.formats.specs.SpecFiles.{n-of, m-of, b-of, edges-from, vertices-from, nests-from, ends-from, Framed, All-inside}
 use Rattle.formats.specs.Specifications.{made-edge, made-vertex, made-nest, made-ends, no-edge, no-vertex, no-nest, no-ends, Sized, Edges-ranged, Homes-ranged, Whole-ranged, Nests-ranged, Ends-ranged}
 use Rattle.formats.specs.declared.kinds.SpecEdge.{SpecEdge}
 use Rattle.formats.specs.declared.kinds.Vertex.{Vertex}

@@ -56,6 +56,7 @@ Ascends bytes base count i =
     (word bytes (first-at base count (i - 1)) < word bytes (first-at base count i))
     ⊎ ((word bytes (first-at base count (i - 1)) ≡ word bytes (first-at base count i)) × (word bytes (second-at base count (i - 1)) < word bytes (second-at base count i)))
 
+-- each record but 0 is above the record before it
 abbrev pub Ascending : List ℕ → ℕ → ℕ → Type 0
 Ascending bytes base count = (i : ℕ) → 0 < i → i < count → Ascends bytes base count i
 

@@ -47,24 +47,28 @@ impl Specification {
         }
     }
 
+    /// The edges, ascending by tail and then by head where they were read from a file.
     pub fn edges(&self) -> &[SpecEdge]
         ensures { λ r. ⌜ now r ≡ kept (now (self .entry) .edges) ⌝ }
     {
         self.edges.as_slice()
     }
 
+    /// The vertices, each under its number.
     pub fn vertices(&self) -> &[Vertex]
         ensures { λ r. ⌜ now r ≡ kept (now (self .entry) .vertices) ⌝ }
     {
         self.vertices.as_slice()
     }
 
+    /// Parent and kind of each block, under its number.
     pub fn nests(&self) -> &[Nest]
         ensures { λ r. ⌜ now r ≡ kept (now (self .entry) .nests) ⌝ }
     {
         self.nests.as_slice()
     }
 
+    /// Source and sink of each block, under its number.
     pub fn ends(&self) -> &[Ends]
         ensures { λ r. ⌜ now r ≡ kept (now (self .entry) .ends) ⌝ }
     {

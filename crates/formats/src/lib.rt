@@ -6,6 +6,6 @@ pub mod kinds;
 pub mod reading;
 pub mod records;
 pub mod sections;
-pub mod spec_file;
+mod spec_file;
 pub mod specification;
 pub mod tables;

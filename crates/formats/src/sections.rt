@@ -24,6 +24,7 @@ pub(crate) fn word_at(bytes: &[u8], at: usize) -> u16
 }
 
 impl Span {
+    /// Whether the span has the number `x`.
     pub fn holds(self, x: u16) -> bool
         ensures { λ r. ⌜ T r ↔ Within self x ⌝ }
     {
@@ -43,6 +44,7 @@ pub struct Section<'a, R> {
 impl<'a, R> Copy for Section<'a, R> {}
 
 impl<'a, R> Section<'a, R> {
+    /// The section of `count` records from byte `base` on.
     pub(crate) fn new(bytes: &'a [u8], base: usize, count: u16) -> Self
         requires { ⌜ base + 4 * count ≤ length (now bytes) ⌝ }
         ensures { λ r. ⌜ (now (r .bytes) ≡ now (bytes .entry)) × (r .base ≡ base) × (r .count ≡ count) ⌝ }
@@ -55,6 +57,7 @@ impl<'a, R> Section<'a, R> {
         }
     }
 
+    /// The first number of record `i`.
     pub(crate) fn first(self, i: u16) -> u16
         requires { ⌜ i < self .count ⌝ }
         ensures { λ r. ⌜ r ≡ word (now (self .entry .bytes)) (first-at (self .entry .base) (self .entry .count) i) ⌝ }
@@ -62,6 +65,7 @@ impl<'a, R> Section<'a, R> {
         word_at(self.bytes, self.base + 2 * i as usize)
     }
 
+    /// The second number of record `i`.
     pub(crate) fn second(self, i: u16) -> u16
         requires { ⌜ i < self .count ⌝ }
         ensures { λ r. ⌜ r ≡ word (now (self .entry .bytes)) (second-at (self .entry .base) (self .entry .count) i) ⌝ }
@@ -112,7 +116,7 @@ impl<'a, R: Record> Section<'a, R> {
         R::make(self.first(i), self.second(i))
     }
 
-    /// Whether number `k` of the section lies in its range.
+    /// Whether number `k` of the section lies in its range; all first numbers come before all second ones.
     fn fits(self, bounds: Bounds, k: u32) -> bool
         requires { ⌜ k < 2 * self .count ⌝ }
         ensures { λ r. ⌜ T r ↔ Number-within (R·Record .kind) bounds (now (self .entry .bytes)) (self .entry .base) (self .entry .count) k ⌝ }

@@ -4,7 +4,7 @@ ghost use Rattle.formats.specs.SpecFiles.{Framed, n-of, m-of, b-of};
 
 /// The bytes of a specification file whose sizes and length are right.
 #[derive(Clone, Copy)]
-pub struct SpecFile<'a> {
+pub(crate) struct SpecFile<'a> {
     pub(crate) bytes: &'a [u8],
     pub(crate) vertices: u16,
     pub(crate) edges: u16,

@@ -46,6 +46,7 @@ impl<T: Copy, const N: usize> Table<T, N> {
         }
     }
 
+    /// How many items the table holds.
     pub fn len(&self) -> usize
         ensures { λ r. ⌜ r ≡ now (self .entry) .len ⌝ }
     {
@@ -67,6 +68,7 @@ impl<T: Copy, const N: usize> Table<T, N> {
         true
     }
 
+    /// The items, in the order in which they were pushed.
     pub fn as_slice(&self) -> &[T]
         ensures { λ r. ⌜ now r ≡ take (now (self .entry) .len) (now (self .entry) .items) ⌝ }
     {
