@@ -7,6 +7,6 @@ pub mod laws;
 pub mod reading;
 pub mod records;
 pub mod sections;
-pub mod spec_file;
+mod spec_file;
 pub mod specification;
 pub mod tables;
