@@ -21,14 +21,14 @@ use crate::specification::Specification;
 
 /// The three sizes of a specification file.
 #[derive(Clone, Copy)]
-struct SpecSizes {
-    vertices: u16,
-    edges: u16,
-    blocks: u16,
+pub struct SpecSizes {
+    pub vertices: u16,
+    pub edges: u16,
+    pub blocks: u16,
 }
 
 /// The sizes of a file, where they are within their limits and the file is as long as they say.
-fn sizes(bytes: &[u8]) -> Result<SpecSizes, ReadingFault>
+pub fn sizes(bytes: &[u8]) -> Result<SpecSizes, ReadingFault>
     ensures { λ r. ⌜ Cases r (λ z. Framed (now (bytes .entry)) × (z .vertices ≡ n-of (now (bytes .entry))) × (z .edges ≡ m-of (now (bytes .entry))) × (z .blocks ≡ b-of (now (bytes .entry)))) (λ e. Refused (now (bytes .entry)) (reading-fault e)) ⌝ }
 {
     if bytes.len() < 6 {
