@@ -2,12 +2,24 @@
 use mathlib.Core.List.{List}
 use mathlib.Core.Logic.{_≢_}
 use mathlib.Core.Path.{_≡_, sym, subst, _∙_}
-use Prim.Native.Nat.{ℕ, _+_, _*_, _≤_}
+use Prim.Native.Nat.{ℕ, _+_, _*_, _≤_, _<_}
+use native.Mathlib.Omega.{arith}
 use lib.ListN.{length}
 use Rattle.formats.specs.Kinds.{Fits, spec-edge-kind, vertex-kind, nest-kind}
 use Rattle.formats.specs.Sections.{Lowest, Ascending, Unordered}
-use Rattle.formats.specs.SpecFiles.{n-of, m-of, b-of, spec-length, bad-n, bad-m, bad-b, edges-from, Framed, All-inside, Number-outside, Refused, bad-size, bad-length, out-of-range, out-of-order, Accepted, States}
+use Rattle.formats.specs.SpecFiles.{n-of, m-of, b-of, spec-length, bad-n, bad-m, bad-b, edges-from, Framed, All-inside, Number-outside, Refused, too-short, bad-size, bad-length, out-of-range, out-of-order, Accepted, States}
+use Rattle.formats.specs.declared.faults.Fault.{Fault}
 use Rattle.formats.specs.declared.specification.Specification.{Specification}
+
+-- a file that one of the first three checks refuses is not framed
+pub unframed : {bytes : List ℕ} {f : Fault} → f .number < 4 → Refused bytes f → Refused bytes f × (¬ (Framed bytes))
+unframed h (too-short a) = (too-short a, λ g. omega (arith, g .0))
+unframed h (bad-size a (bad-n b)) = (bad-size a (bad-n b), λ g. b (g .1 .0))
+unframed h (bad-size a (bad-m b c)) = (bad-size a (bad-m b c), λ g. c (g .1 .1))
+unframed h (bad-size a (bad-b b c d)) = (bad-size a (bad-b b c d), λ g. d (g .1 .2))
+unframed h (bad-length a b c) = (bad-length a b c, λ g. c (g .2))
+unframed h (out-of-range a b) = absurd (omega arith)
+unframed h (out-of-order a b c) = absurd (omega arith)
 
 -- n, m and b as the code read them
 module _ {bytes : List ℕ} {n m b : ℕ} (held : 6 ≤ length bytes) (at-n : n ≡ n-of bytes) (at-m : m ≡ m-of bytes) (at-b : b ≡ b-of bytes) where

@@ -29,7 +29,7 @@ pub struct SpecSizes {
 
 /// The sizes of a file, where they are within their limits and the file is as long as they say.
 pub fn sizes(bytes: &[u8]) -> Result<SpecSizes, ReadingFault>
-    ensures { λ r. ⌜ Cases r (λ z. Framed (now (bytes .entry)) × (z .vertices ≡ n-of (now (bytes .entry))) × (z .edges ≡ m-of (now (bytes .entry))) × (z .blocks ≡ b-of (now (bytes .entry)))) (λ e. Refused (now (bytes .entry)) (reading-fault e)) ⌝ }
+    ensures { λ r. ⌜ Cases r (λ z. Framed (now (bytes .entry)) × (z .vertices ≡ n-of (now (bytes .entry))) × (z .edges ≡ m-of (now (bytes .entry))) × (z .blocks ≡ b-of (now (bytes .entry)))) (λ e. Refused (now (bytes .entry)) (reading-fault e) × (¬ (Framed (now (bytes .entry))))) ⌝ }
 {
     if bytes.len() < 6 {
         return Err(ReadingFault::Short {
