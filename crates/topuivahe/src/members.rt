@@ -1,10 +1,21 @@
+ghost use mathlib.Core.Path.{_≡_};
+ghost use mathlib.Core.Logic.{_↔_};
+ghost use lib.Dec.{T};
+ghost use Rattle.std.specs.Of.Vec.{vec-items};
+ghost use Rattle.std.specs.Vec.{made};
+ghost use Rattle.model.specs.Specifications.{Domain};
+ghost use Rattle.formats.specs.Of.{spec-of};
+ghost use Rattle.topuivahe.specs.Listings.{Lists};
+ghost use Rattle.topuivahe.specs.Meanings.{Entered, Left, Means};
 use crate::failure::Failure;
 use crate::failure::FailureOfPush;
 use formats::specification::Specification;
 use std::alloc::Global;
 
 /// The home of a vertex; 0 for a number that no vertex has.
-pub fn home_of(specification: &Specification, vertex: usize) -> usize {
+pub fn home_of(specification: &Specification, vertex: usize) -> usize
+    ensures { λ r. ⌜ r ≡ spec-of (now (specification .entry)) .home vertex ⌝ }
+{
     match specification.vertices().get(vertex) {
         Some(found) => found.home as usize,
         None => 0,
@@ -12,7 +23,9 @@ pub fn home_of(specification: &Specification, vertex: usize) -> usize {
 }
 
 /// The parent of a block; 0 for a number that no block has.
-pub fn parent_of(specification: &Specification, block: usize) -> usize {
+pub fn parent_of(specification: &Specification, block: usize) -> usize
+    ensures { λ r. ⌜ r ≡ spec-of (now (specification .entry)) .above block ⌝ }
+{
     match specification.nests().get(block) {
         Some(found) => found.parent as usize,
         None => 0,
@@ -20,7 +33,9 @@ pub fn parent_of(specification: &Specification, block: usize) -> usize {
 }
 
 /// Whether a vertex lies in the domain of a block: its home is the block, or has it above.
-pub fn in_domain(specification: &Specification, block: usize, vertex: usize) -> bool {
+pub fn in_domain(specification: &Specification, block: usize, vertex: usize) -> bool
+    ensures { λ r. ⌜ T r ↔ Domain (spec-of (now (specification .entry))) block vertex ⌝ }
+{
     let mut at = home_of(specification, vertex);
     while at > block {
         at = parent_of(specification, at);
@@ -28,59 +43,10 @@ pub fn in_domain(specification: &Specification, block: usize, vertex: usize) -> 
     at == block
 }
 
-/// The vertices whose home is the block, ascending.
-pub fn own_vertices(
-    heap: Global,
-    specification: &Specification,
-    block: usize,
-) -> Result<Vec<usize>, Failure> {
-    let mut own = Vec::new(heap);
-    for vertex in 0..specification.vertices().len() {
-        if home_of(specification, vertex) == block {
-            own.push(vertex)?;
-        }
-    }
-    Ok(own)
-}
-
-/// The vertices in the domain of the block, ascending.
-pub fn domain(
-    heap: Global,
-    specification: &Specification,
-    block: usize,
-) -> Result<Vec<usize>, Failure> {
-    let mut inside = Vec::new(heap);
-    for vertex in 0..specification.vertices().len() {
-        if in_domain(specification, block, vertex) {
-            inside.push(vertex)?;
-        }
-    }
-    Ok(inside)
-}
-
-/// The vertices without an edge into them, ascending.
-pub fn starts(heap: Global, specification: &Specification) -> Result<Vec<usize>, Failure> {
-    let mut found = Vec::new(heap);
-    for vertex in 0..specification.vertices().len() {
-        if !is_head(specification, vertex) {
-            found.push(vertex)?;
-        }
-    }
-    Ok(found)
-}
-
-/// The vertices without an edge out of them, ascending.
-pub fn stops(heap: Global, specification: &Specification) -> Result<Vec<usize>, Failure> {
-    let mut found = Vec::new(heap);
-    for vertex in 0..specification.vertices().len() {
-        if !is_tail(specification, vertex) {
-            found.push(vertex)?;
-        }
-    }
-    Ok(found)
-}
-
-fn is_head(specification: &Specification, vertex: usize) -> bool {
+/// Whether some edge leads to the vertex.
+fn is_head(specification: &Specification, vertex: usize) -> bool
+    ensures { λ r. ⌜ T r ↔ Entered (spec-of (now (specification .entry))) vertex ⌝ }
+{
     for edge in specification.edges() {
         if edge.head as usize == vertex {
             return true;
@@ -89,11 +55,57 @@ fn is_head(specification: &Specification, vertex: usize) -> bool {
     false
 }
 
-fn is_tail(specification: &Specification, vertex: usize) -> bool {
+/// Whether some edge leads from the vertex.
+fn is_tail(specification: &Specification, vertex: usize) -> bool
+    ensures { λ r. ⌜ T r ↔ Left (spec-of (now (specification .entry))) vertex ⌝ }
+{
     for edge in specification.edges() {
         if edge.tail as usize == vertex {
             return true;
         }
     }
     false
+}
+
+/// Which vertices of a specification are meant.
+#[derive(Clone, Copy)]
+pub enum Meant {
+    /// Those whose home is the block.
+    Own(usize),
+    /// Those in the domain of the block.
+    Domain(usize),
+    /// Those without an incoming edge.
+    Entries,
+    /// Those without an outgoing edge.
+    Exits,
+}
+
+impl Meant {
+    fn means(self, specification: &Specification, vertex: usize) -> bool
+        ensures { λ r. ⌜ T r ↔ Means (spec-of (now (specification .entry))) self vertex ⌝ }
+    {
+        match self {
+            Meant::Own(block) => home_of(specification, vertex) == block,
+            Meant::Domain(block) => in_domain(specification, block, vertex),
+            Meant::Entries => !is_head(specification, vertex),
+            Meant::Exits => !is_tail(specification, vertex),
+        }
+    }
+}
+
+/// The vertices that are meant, ascending.
+pub fn members(
+    heap: Global,
+    specification: &Specification,
+    meant: Meant,
+) -> Result<Vec<usize>, Failure>
+    ensures { λ r. ⌜ made r (λ v. Lists (Means (spec-of (now (specification .entry))) meant) (spec-of (now (specification .entry)) .n) (vec-items v)) ⌝ }
+{
+    let mut found = Vec::new(heap);
+    for vertex in 0..specification.vertices().len() {
+        if meant.means(specification, vertex) {
+            found.push(vertex)?;
+        }
+    }
+    Ok(found)
 }

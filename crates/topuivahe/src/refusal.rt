@@ -7,10 +7,9 @@ use crate::file::number_at;
 use crate::file::spot_of;
 use crate::file::stated_sizes;
 use crate::lists::listed;
-use crate::members::domain;
+use crate::members::Meant;
+use crate::members::members;
 use crate::members::parent_of;
-use crate::members::starts;
-use crate::members::stops;
 use crate::tables::kind_word;
 use formats::faults::Fault;
 use formats::faults::ReadingFault;
@@ -203,8 +202,11 @@ fn ends_of(specification: &Specification, block: usize) -> Ends {
 
 fn whole_words(heap: Global, specification: &Specification) -> Result<String, Failure> {
     let Ends { source, sink } = ends_of(specification, 0);
-    let no_in = listed(heap, starts(heap, specification)?.as_slice())?;
-    let no_out = listed(heap, stops(heap, specification)?.as_slice())?;
+    let no_in = listed(
+        heap,
+        members(heap, specification, Meant::Entries)?.as_slice(),
+    )?;
+    let no_out = listed(heap, members(heap, specification, Meant::Exits)?.as_slice())?;
     let rule =
         "block 0 breaks the rule for the whole: its source must be the one vertex without an incoming edge, and its sink the one without an outgoing edge";
     Ok(
@@ -222,7 +224,10 @@ fn block_words(
     block: usize,
 ) -> Result<String, Failure> {
     let Ends { source, sink } = ends_of(specification, block);
-    let inside = listed(heap, domain(heap, specification, block)?.as_slice())?;
+    let inside = listed(
+        heap,
+        members(heap, specification, Meant::Domain(block))?.as_slice(),
+    )?;
     let kind = match specification.nests().get(block) {
         Some(nest) => kind_word(nest),
         None => "block",

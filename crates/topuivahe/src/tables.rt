@@ -3,8 +3,8 @@ use crate::failure::FailureOfAlloc;
 use crate::failure::FailureOfPush;
 use crate::failure::FailureOfText;
 use crate::lists::listed;
-use crate::members::domain;
-use crate::members::own_vertices;
+use crate::members::Meant;
+use crate::members::members;
 use formats::contents::BlockKind;
 use formats::kinds::Ends;
 use formats::kinds::Nest;
@@ -31,8 +31,8 @@ struct Holding {
 fn holdings(heap: Global, specification: &Specification) -> Result<Vec<Holding>, Failure> {
     let mut all = Vec::new(heap);
     for block in 0..specification.nests().len() {
-        let own = own_vertices(heap, specification, block)?;
-        let inside = domain(heap, specification, block)?;
+        let own = members(heap, specification, Meant::Own(block))?;
+        let inside = members(heap, specification, Meant::Domain(block))?;
         all.push(Holding {
             own: listed(heap, own.as_slice())?,
             domain: listed(heap, inside.as_slice())?,
