@@ -1,4 +1,5 @@
 use crate::failure::Failure;
+use crate::failure::FailureOfAlloc;
 use crate::failure::FailureOfText;
 use crate::file::stated_sizes;
 use crate::refusal::refusal_line;
@@ -57,8 +58,9 @@ pub fn report(
     }
     writeln!(out)?;
     match verdict {
-        Ok(()) => writeln!(out, "sealed")?,
-        Err(fault) => refusal_line(&mut out, heap, fault, bytes, specification)?,
+        Ok(()) => out.push_str("sealed")?,
+        Err(fault) => out.push_str(refusal_line(heap, fault, bytes, specification)?.as_str())?,
     }
+    writeln!(out)?;
     Ok(out)
 }

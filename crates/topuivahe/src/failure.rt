@@ -1,5 +1,4 @@
 use std::alloc::AllocError;
-use std::alloc::Refused;
 use std::fmt;
 use std::io;
 
@@ -20,12 +19,6 @@ pub enum Failure {
 
 pub impl From<AllocError> for Failure as FailureOfAlloc {
     fn from(_error: AllocError) -> Self {
-        Failure::Memory
-    }
-}
-
-pub impl<T: Drop> From<Refused<T>> for Failure as FailureOfPush {
-    fn from(_error: Refused<T>) -> Self {
         Failure::Memory
     }
 }

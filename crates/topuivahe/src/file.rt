@@ -1,7 +1,15 @@
+ghost use mathlib.Core.Path.{_≡_};
+ghost use Prim.Native.Nat.{_+_, _<_, _≤_};
+ghost use lib.ListN.{length};
+ghost use Rattle.std.specs.Options.{Cases as BySome};
+ghost use Rattle.formats.specs.SpecFiles.{n-of, m-of, b-of};
+ghost use Rattle.formats.specs.Words.{word};
 use formats::reading::SpecSizes;
 
 /// The number at byte `at`, where the file has it.
-pub fn number_at(bytes: &[u8], at: usize) -> Option<u16> {
+pub fn number_at(bytes: &[u8], at: usize) -> Option<u16>
+    ensures { λ r. ⌜ BySome r (length (now (bytes .entry)) ≤ at + 1) (λ x. (at + 1 < length (now (bytes .entry))) × (x ≡ word (now (bytes .entry)) at)) ⌝ }
+{
     if at >= bytes.len() || at + 1 >= bytes.len() {
         return None;
     }
@@ -9,7 +17,9 @@ pub fn number_at(bytes: &[u8], at: usize) -> Option<u16> {
 }
 
 /// The sizes that the file begins with, whether or not they are within their limits.
-pub fn stated_sizes(bytes: &[u8]) -> Option<SpecSizes> {
+pub fn stated_sizes(bytes: &[u8]) -> Option<SpecSizes>
+    ensures { λ r. ⌜ BySome r (length (now (bytes .entry)) < 6) (λ z. (6 ≤ length (now (bytes .entry))) × (z .vertices ≡ n-of (now (bytes .entry))) × (z .edges ≡ m-of (now (bytes .entry))) × (z .blocks ≡ b-of (now (bytes .entry)))) ⌝ }
+{
     if bytes.len() < 6 {
         return None;
     }

@@ -1,9 +1,5 @@
-use crate::failure::Failure;
-use crate::failure::FailureOfAlloc;
-use crate::failure::FailureOfPush;
-use crate::failure::FailureOfText;
+use std::alloc::AllocError;
 use std::alloc::Global;
-use std::fmt;
 
 /// The numbers from `first` to `last`.
 #[derive(Clone, Copy)]
@@ -12,22 +8,19 @@ struct Run {
     last: usize,
 }
 
-impl fmt::Display for Run as RunDisplay {
-    fn fmt<W: fmt::Write>(&self, f: &mut fmt::Formatter<W>) -> fmt::Result {
-        let first = self.first;
-        let last = self.last;
-        if first == last {
-            write!(f, "{first}")
-        } else if first.checked_add(1) == Some(last) {
-            write!(f, "{first}, {last}")
-        } else {
-            write!(f, "{first} to {last}")
-        }
+fn run_text(heap: Global, run: Run) -> Result<String, AllocError> {
+    let Run { first, last } = run;
+    if first == last {
+        format!(heap, "{first}")
+    } else if first.checked_add(1) == Some(last) {
+        format!(heap, "{first}, {last}")
+    } else {
+        format!(heap, "{first} to {last}")
     }
 }
 
 /// The runs of neighbours in an ascending list.
-fn runs(heap: Global, numbers: &[usize]) -> Result<Vec<Run>, Failure> {
+fn runs(heap: Global, numbers: &[usize]) -> Result<Vec<Run>, AllocError> {
     let mut all = Vec::new(heap);
     let mut open: Option<Run> = None;
     for number in numbers {
@@ -53,16 +46,16 @@ fn runs(heap: Global, numbers: &[usize]) -> Result<Vec<Run>, Failure> {
 }
 
 /// An ascending list of numbers in words, as `0, 2 to 5`; `none` if it is empty.
-pub fn listed(heap: Global, numbers: &[usize]) -> Result<String, Failure> {
+pub fn listed(heap: Global, numbers: &[usize]) -> Result<String, AllocError> {
+    if numbers.is_empty() {
+        return String::from_str(heap, "none");
+    }
     let mut text = String::new(heap);
     for (i, run) in runs(heap, numbers)?.iter().enumerate() {
         if i > 0 {
             text.push_str(", ")?;
         }
-        write!(text, "{run}")?;
-    }
-    if numbers.is_empty() {
-        text.push_str("none")?;
+        text.push_str(run_text(heap, *run)?.as_str())?;
     }
     Ok(text)
 }

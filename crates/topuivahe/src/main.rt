@@ -5,12 +5,13 @@ mod failure;
 mod file;
 mod lists;
 mod members;
+mod reading_words;
 mod refusal;
+mod sealing_words;
 mod tables;
 
 use crate::account::report;
 use crate::failure::Failure;
-use crate::failure::FailureOfAlloc;
 use crate::failure::FailureOfIo;
 use formats::specification::Specification;
 use nesting::sealed::SealedSpecification;
@@ -64,8 +65,13 @@ fn check(rt: &LibcRuntime, name: &str) -> Result<(), Failure> {
     let mut specification = Specification::new();
     let mut sealed = SealedSpecification::new();
     let verdict = read_and_seal(bytes.as_slice(), &mut specification, &mut sealed);
-    let text = report(rt.alloc(), name, bytes.as_slice(), &specification, verdict)?;
-    rt.print(text)?;
+    match report(rt.alloc(), name, bytes.as_slice(), &specification, verdict) {
+        Ok(text) => rt.print(text)?,
+        Err(_) => {
+            eprintln!(rt, "topuivahe: no memory for the account of {name}")?;
+            return Err(Failure::Memory);
+        }
+    }
     match verdict {
         Ok(()) => Ok(()),
         Err(_) => Err(Failure::Refused),
@@ -73,8 +79,8 @@ fn check(rt: &LibcRuntime, name: &str) -> Result<(), Failure> {
 }
 
 fn main(rt: LibcRuntime) -> Result<(), Failure> {
-    match file_to_check(&rt)? {
-        Some(name) => check(&rt, name.as_str()),
-        None => usage(&rt),
+    match file_to_check(&rt) {
+        Ok(Some(name)) => check(&rt, name.as_str()),
+        _ => usage(&rt),
     }
 }

@@ -7,9 +7,8 @@ ghost use Rattle.model.specs.Specifications.{Domain};
 ghost use Rattle.formats.specs.Of.{spec-of};
 ghost use Rattle.topuivahe.specs.Listings.{Lists};
 ghost use Rattle.topuivahe.specs.Meanings.{Entered, Left, Means};
-use crate::failure::Failure;
-use crate::failure::FailureOfPush;
 use formats::specification::Specification;
+use std::alloc::AllocError;
 use std::alloc::Global;
 
 /// The home of a vertex; 0 for a number that no vertex has.
@@ -98,7 +97,7 @@ pub fn members(
     heap: Global,
     specification: &Specification,
     meant: Meant,
-) -> Result<Vec<usize>, Failure>
+) -> Result<Vec<usize>, AllocError>
     ensures { λ r. ⌜ made r (λ v. Lists (Means (spec-of (now (specification .entry))) meant) (spec-of (now (specification .entry)) .n) (vec-items v)) ⌝ }
 {
     let mut found = Vec::new(heap);

@@ -1,6 +1,5 @@
 use crate::failure::Failure;
 use crate::failure::FailureOfAlloc;
-use crate::failure::FailureOfPush;
 use crate::failure::FailureOfText;
 use crate::lists::listed;
 use crate::members::Meant;
@@ -9,6 +8,7 @@ use formats::contents::BlockKind;
 use formats::kinds::Ends;
 use formats::kinds::Nest;
 use formats::specification::Specification;
+use std::alloc::AllocError;
 use std::alloc::Global;
 
 /// The word for a block's kind.
@@ -28,7 +28,7 @@ struct Holding {
     domain: String,
 }
 
-fn holdings(heap: Global, specification: &Specification) -> Result<Vec<Holding>, Failure> {
+fn holdings(heap: Global, specification: &Specification) -> Result<Vec<Holding>, AllocError> {
     let mut all = Vec::new(heap);
     for block in 0..specification.nests().len() {
         let own = members(heap, specification, Meant::Own(block))?;
@@ -53,11 +53,11 @@ fn own_width(all: &[Holding]) -> usize {
 }
 
 /// The parent's number; the whole has no parent to show.
-fn parent_text(heap: Global, nest: &Nest) -> Result<String, Failure> {
+fn parent_text(heap: Global, nest: &Nest) -> Result<String, AllocError> {
     let parent = nest.parent;
     match nest.block_kind() {
-        Some(BlockKind::Whole) => Ok(String::from_str(heap, "-")?),
-        _ => Ok(format!(heap, "{parent}")?),
+        Some(BlockKind::Whole) => String::from_str(heap, "-"),
+        _ => format!(heap, "{parent}"),
     }
 }
 
@@ -101,6 +101,11 @@ pub fn blocks_table(
         let parent = parent_text(heap, nest)?;
         block_row(out, block, nest, parent.as_str(), ends, holding, width)?;
     }
+    writeln!(out, "  own vertices: those whose home is the block")?;
+    writeln!(
+        out,
+        "  whole domain: those, and the own vertices of every block inside it"
+    )?;
     Ok(())
 }
 
