@@ -11,7 +11,7 @@ use std::alloc::Global;
 pub fn cycle_words(heap: Global, vertex: usize) -> Result<String, AllocError> {
     format!(
         heap,
-        "the edges make a cycle: vertex {vertex} leads back to itself, and no vertex may"
+        "the edges make a cycle: vertex {vertex} is the lowest that leads back to itself, and none may"
     )
 }
 
@@ -56,7 +56,7 @@ fn block_words(
     };
     format!(
         heap,
-        "block {block}, a {kind} with source {source}, sink {sink} and the domain {inside}"
+        "block {block}, a {kind} with source {source}, sink {sink} and the domain {{{inside}}}"
     )
 }
 
