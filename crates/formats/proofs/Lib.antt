@@ -1,3 +1,5 @@
 pub mod Refusals
 pub mod Ranges
 pub mod Stated
+pub mod Decided
+pub mod Rows

@@ -1,12 +1,13 @@
--- From what the checks find to the refusals of a specification file.
+-- From what the checks find to the refusals of a specification file, or to its being accepted.
 use mathlib.Core.List.{List}
 use mathlib.Core.Logic.{_≢_}
 use mathlib.Core.Path.{_≡_, sym, subst, _∙_}
 use Prim.Native.Nat.{ℕ, _+_, _*_, _≤_}
 use lib.ListN.{length}
 use Rattle.formats.specs.Kinds.{Fits, spec-edge-kind, vertex-kind, nest-kind}
-use Rattle.formats.specs.Sections.{Lowest, Unordered}
-use Rattle.formats.specs.SpecFiles.{n-of, m-of, b-of, spec-length, Bad-size, bad-n, bad-m, bad-b, edges-from, Framed, All-inside, Number-outside, Refused, bad-size, bad-length, out-of-range, out-of-order}
+use Rattle.formats.specs.Sections.{Lowest, Ascending, Unordered}
+use Rattle.formats.specs.SpecFiles.{n-of, m-of, b-of, spec-length, bad-n, bad-m, bad-b, edges-from, Framed, All-inside, Number-outside, Refused, bad-size, bad-length, out-of-range, out-of-order, Accepted, States}
+use Rattle.formats.specs.declared.specification.Specification.{Specification}
 
 -- n, m and b as the code read them
 module _ {bytes : List ℕ} {n m b : ℕ} (held : 6 ≤ length bytes) (at-n : n ≡ n-of bytes) (at-m : m ≡ m-of bytes) (at-b : b ≡ b-of bytes) where
@@ -26,12 +27,22 @@ module _ {bytes : List ℕ} {n m b : ℕ} (held : 6 ≤ length bytes) (at-n : n 
       same : 6 + 4 * (m + n + 2 * b) ≡ spec-length bytes
       same = rw (at-n, at-m, at-b)
 
--- the same file under another name
-module _ {bytes bytes′ : List ℕ} {p : ℕ} (same : bytes′ ≡ bytes) (framed : Framed bytes) where
-  pub by-range : Lowest (Number-outside bytes′) p → Refused bytes (record { layer = 1; number = 4; place = p })
-  by-range l = out-of-range framed (subst (λ (b : List ℕ). Lowest (Number-outside b) p) same l)
+-- the same file under another name, as its sections and the value read from it have it
+module _ {bytes bytes′ : List ℕ} (same : bytes′ ≡ bytes) (framed : Framed bytes) where
+  pub by-range : {p : ℕ} → Lowest (Number-outside bytes′) p → Refused bytes (record { layer = 1; number = 4; place = p })
+  by-range {p = p} l = out-of-range framed (subst (λ (b : List ℕ). Lowest (Number-outside b) p) same l)
 
-  pub by-order : {bytes″ : List ℕ} {base count : ℕ} → bytes″ ≡ bytes′ → base ≡ edges-from bytes′ → count ≡ m-of bytes′ → All-inside bytes′ → Lowest (Unordered bytes″ base count) p → Refused bytes (record { layer = 1; number = 5; place = p })
-  by-order {base = base} {count = count} a b c i l =
-      let l′ = subst (λ (n : ℕ). Lowest (Unordered bytes′ (edges-from bytes′) n) p) c (subst (λ (n : ℕ). Lowest (Unordered bytes′ n count) p) b (subst (λ (s : List ℕ). Lowest (Unordered s base count) p) a l)) in
-      out-of-order framed (subst All-inside same i) (subst (λ (b : List ℕ). Lowest (Unordered b (edges-from b) (m-of b)) p) same l′)
+  module _ {bytes″ : List ℕ} {base count : ℕ} (a : bytes″ ≡ bytes′) (b : base ≡ edges-from bytes′) (c : count ≡ m-of bytes′) (inside : All-inside bytes′) where
+    of-edges : (P : List ℕ → ℕ → ℕ → Type 0) → P bytes″ base count → P bytes (edges-from bytes) (m-of bytes)
+    of-edges P h =
+        let h′ = subst (λ (n : ℕ). P bytes′ (edges-from bytes′) n) c (subst (λ (n : ℕ). P bytes′ n count) b (subst (λ (s : List ℕ). P s base count) a h)) in
+        subst (λ (b : List ℕ). P b (edges-from b) (m-of b)) same h′
+
+    pub by-order : {p : ℕ} → Lowest (Unordered bytes″ base count) p → Refused bytes (record { layer = 1; number = 5; place = p })
+    by-order {p = p} l = out-of-order framed (subst All-inside same inside) (of-edges (λ (b : List ℕ) (x y : ℕ). Lowest (Unordered b x y) p) l)
+
+    pub by-none : Ascending bytes″ base count → Accepted bytes
+    by-none l = record { framed = framed; inside = subst All-inside same inside; ascending = of-edges Ascending l }
+
+  pub states-as : {s : Specification} → States bytes′ s → States bytes s
+  states-as {s = s} h = subst (λ (b : List ℕ). States b s) same h

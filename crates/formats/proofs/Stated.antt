@@ -1,16 +1,15 @@
 -- A file whose numbers all lie in their ranges states tables whose numbers do.
-use mathlib.Core.Bool.{cond, true, false}
+use mathlib.Core.Bool.{cond}
 use mathlib.Core.List.{List}
-use mathlib.Core.Path.{_≡_, refl, sym, ap, subst, _∙_}
-use Prim.Native.Nat.{ℕ, _≤_, _<_}
+use mathlib.Core.Path.{_≡_, sym, ap, subst, _∙_}
+use Prim.Native.Nat.{ℕ, _<_}
 use native.Mathlib.Omega.{arith}
-use lib.Dec.{eqb}
 use lib.ListN.{length, getD}
 use Rattle.std.proofs.shelf.Counted.{length-map-counting, getD-map-counting}
 use Rattle.std.proofs.shelf.Tests.{ne-eqb}
-use Rattle.formats.specs.Kinds.{Within, spec-edge-kind, vertex-kind, nest-kind, ends-kind, below, but-zero}
-use Rattle.formats.specs.Sections.{Inside, stated, section}
-use Rattle.formats.specs.SpecFiles.{n-of, m-of, b-of, edges-from, vertices-from, nests-from, ends-from, spec-bounds, Framed, All-inside}
+use Rattle.formats.specs.Kinds.{Within, below, but-zero}
+use Rattle.formats.specs.Sections.{stated, section}
+use Rattle.formats.specs.SpecFiles.{n-of, m-of, b-of, edges-from, vertices-from, nests-from, ends-from, Framed, All-inside}
 use Rattle.formats.specs.Specifications.{made-edge, made-vertex, made-nest, made-ends, no-edge, no-vertex, no-nest, no-ends, Sized, Edges-ranged, Homes-ranged, Whole-ranged, Nests-ranged, Ends-ranged}
 use Rattle.formats.specs.declared.kinds.SpecEdge.{SpecEdge}
 use Rattle.formats.specs.declared.kinds.Vertex.{Vertex}
@@ -30,9 +29,14 @@ past-zero i s x h w =
     let e : but-zero i s ≡ s = ap (λ b. cond b (below 1) s) (ne-eqb i 0 (λ e. omega (arith, e))) in
     subst (λ (s : Span). Within s x) e w
 
-pub section-as : {R : Type 0} (made : ℕ → ℕ → R) {bytes bytes′ : List ℕ} {base base′ count count′ : ℕ} → bytes ≡ bytes′ → base ≡ base′ → count ≡ count′
-    → section made bytes base count ≡ section made bytes′ base′ count′
-section-as made a b c = rw (a, b, c)
+-- rows copied from a section, where the section is known under other names
+pub rows-as : {R : Type 0} (made : ℕ → ℕ → R) {rows : List R} {bytes bytes′ : List ℕ} {base base′ count count′ : ℕ} → rows ≡ section made bytes base count
+    → (bytes ≡ bytes′) × (base ≡ base′) × (count ≡ count′) → rows ≡ section made bytes′ base′ count′
+rows-as made r e =
+    let a = e .0 in
+    let b = e .1 in
+    let c = e .2 in
+    r ∙ rw (a, b, c)
 
 module _ {bytes : List ℕ} (framed : Framed bytes) (inside : All-inside bytes)
     {es : List SpecEdge} {vs : List Vertex} {ns : List Nest} {xs : List Ends}

@@ -1,6 +1,6 @@
 -- The kinds of record: for each the limits of its size, and the range of its two numbers.
 use mathlib.Core.Bool.{cond}
-use Prim.Native.Nat.{ℕ, _+_, _^_, _≤_, _<_}
+use Prim.Native.Nat.{ℕ, _≤_, _<_}
 use lib.Dec.{eqb}
 use Rattle.formats.specs.declared.records.Bounds.{Bounds}
 use Rattle.formats.specs.declared.records.Span.{Span}
@@ -16,6 +16,7 @@ pub record Kind : Type 0 where
   pub firsts : Bounds → ℕ → Span
   pub seconds : Bounds → ℕ → Span
 
+-- a section of this kind may have so many records
 abbrev pub Fits : Kind → ℕ → Type 0
 Fits k size = (k .floor ≤ size) × (size ≤ k .ceiling)
 

@@ -7,3 +7,4 @@ pub mod Specifications
 pub mod Of
 pub mod SpecFiles
 pub mod Blocks
+pub mod Deciding

@@ -1,11 +1,11 @@
 -- Sections: two parallel arrays, the first numbers of all records and then their second numbers.
 use mathlib.Core.Path.{_≡_}
 use mathlib.Core.Logic.{_⊎_}
+use mathlib.Core.Bool.{cond}
 use mathlib.Core.List.{List, map}
 use Prim.Native.Nat.{ℕ, _+_, _*_, _-_, _<_}
+use lib.Dec.{ltb}
 use Rattle.std.specs.Iters.{counting}
-use Rattle.std.specs.declared.option.Option.{Option}
-use Rattle.std.specs.declared.option.Option.the-variants.{Some, None}
 use Rattle.formats.specs.Words.{word}
 use Rattle.formats.specs.Kinds.{Kind, Within}
 use Rattle.formats.specs.declared.records.Bounds.{Bounds}
@@ -41,6 +41,10 @@ pub data Outside (k : Kind) (w : Bounds) (bytes : List ℕ) (base count p : ℕ)
   first-out : (i : ℕ) → i < count → p ≡ first-at base count i → (¬ (First-within k w bytes base count i)) → Outside k w bytes base count p
   second-out : (i : ℕ) → i < count → p ≡ second-at base count i → (¬ (Second-within k w bytes base count i)) → Outside k w bytes base count p
 
+-- number k of the section, the first numbers of all records and then their second numbers, lies in its range
+abbrev pub Number-within : Kind → Bounds → List ℕ → ℕ → ℕ → ℕ → Type 0
+Number-within k w bytes base count n = Within (cond (ltb n count) (k .firsts w n) (k .seconds w (n - count))) (word bytes (base + 2 * n))
+
 -- every number of the section lies in its range
 pub record Inside (k : Kind) (w : Bounds) (bytes : List ℕ) (base count : ℕ) : Type 0 where
   pub firsts-in : (i : ℕ) → i < count → First-within k w bytes base count i
@@ -52,14 +56,10 @@ Ascends bytes base count i =
     (word bytes (first-at base count (i - 1)) < word bytes (first-at base count i))
     ⊎ ((word bytes (first-at base count (i - 1)) ≡ word bytes (first-at base count i)) × (word bytes (second-at base count (i - 1)) < word bytes (second-at base count i)))
 
+-- each record but 0 is above the record before it
 abbrev pub Ascending : List ℕ → ℕ → ℕ → Type 0
 Ascending bytes base count = (i : ℕ) → 0 < i → i < count → Ascends bytes base count i
 
 -- p is the byte position of the first number of a record but 0 that is not above the record before it
 abbrev pub Unordered : List ℕ → ℕ → ℕ → ℕ → Type 0
 Unordered bytes base count p = (i : ℕ) × (0 < i) × (i < count) × (p ≡ first-at base count i) × (¬ (Ascends bytes base count i))
-
--- what a search of the indices below count came to: each was good, or the first that was not, told by its place
-abbrev pub Scanned : (ℕ → Type 0) → (ℕ → ℕ) → ℕ → Option ℕ → Type 0
-Scanned Good place count None = (i : ℕ) → i < count → Good i
-Scanned Good place count (Some p) = (i : ℕ) × (i < count) × (p ≡ place i) × (¬ (Good i)) × ((j : ℕ) → j < i → Good j)

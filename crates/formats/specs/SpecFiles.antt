@@ -1,6 +1,6 @@
 -- Specification files: where their numbers stand, what they state, and why one is refused.
 use mathlib.Core.List.{List}
-use mathlib.Core.Logic.{_≢_, _⊎_}
+use mathlib.Core.Logic.{_≢_}
 use mathlib.Core.Path.{_≡_}
 use Prim.Native.Nat.{ℕ, _+_, _*_, _≤_, _<_}
 use lib.ListN.{length}
@@ -50,6 +50,7 @@ pub data Bad-size (bytes : List ℕ) : ℕ → Type 0 where
   bad-m : Fits vertex-kind (n-of bytes) → (¬ (Fits spec-edge-kind (m-of bytes))) → Bad-size bytes 1
   bad-b : Fits vertex-kind (n-of bytes) → Fits spec-edge-kind (m-of bytes) → (¬ (Fits nest-kind (b-of bytes))) → Bad-size bytes 2
 
+-- each size lies within its limits
 abbrev pub Sizes-fit : List ℕ → Type 0
 Sizes-fit bytes = Fits vertex-kind (n-of bytes) × Fits spec-edge-kind (m-of bytes) × Fits nest-kind (b-of bytes)
 

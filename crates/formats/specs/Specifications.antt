@@ -11,6 +11,7 @@ use Rattle.formats.specs.declared.kinds.Vertex.{Vertex}
 use Rattle.formats.specs.declared.kinds.Nest.{Nest}
 use Rattle.formats.specs.declared.kinds.Ends.{Ends}
 
+-- records of zeros: what a list is read as beyond its end, and what the trivial specification holds
 abbrev pub no-edge : SpecEdge
 no-edge = record { tail = 0; head = 0 }
 

@@ -39,39 +39,36 @@ impl Specification {
     pub fn new() -> Self
         ensures { λ r. ⌜ (kept (r .edges) ≡ []) × (kept (r .vertices) ≡ no-vertex ∷ []) × (kept (r .nests) ≡ no-nest ∷ []) × (kept (r .ends) ≡ no-ends ∷ []) ⌝ }
     {
-        let edges = Table::new(SpecEdge { tail: 0, head: 0 });
-        let mut vertices = Table::new(Vertex { home: 0, tool: 0 });
-        let mut nests = Table::new(Nest { parent: 0, kind: 0 });
-        let mut ends = Table::new(Ends { source: 0, sink: 0 });
-        let _ = vertices.push(Vertex { home: 0, tool: 0 });
-        let _ = nests.push(Nest { parent: 0, kind: 0 });
-        let _ = ends.push(Ends { source: 0, sink: 0 });
         Specification {
-            edges,
-            vertices,
-            nests,
-            ends,
+            edges: Table::new(SpecEdge { tail: 0, head: 0 }),
+            vertices: Table::only(Vertex { home: 0, tool: 0 }),
+            nests: Table::only(Nest { parent: 0, kind: 0 }),
+            ends: Table::only(Ends { source: 0, sink: 0 }),
         }
     }
 
+    /// The edges, ascending by tail and then by head where they were read from a file.
     pub fn edges(&self) -> &[SpecEdge]
         ensures { λ r. ⌜ now r ≡ kept (now (self .entry) .edges) ⌝ }
     {
         self.edges.as_slice()
     }
 
+    /// The vertices, each under its number.
     pub fn vertices(&self) -> &[Vertex]
         ensures { λ r. ⌜ now r ≡ kept (now (self .entry) .vertices) ⌝ }
     {
         self.vertices.as_slice()
     }
 
+    /// Parent and kind of each block, under its number.
     pub fn nests(&self) -> &[Nest]
         ensures { λ r. ⌜ now r ≡ kept (now (self .entry) .nests) ⌝ }
     {
         self.nests.as_slice()
     }
 
+    /// Source and sink of each block, under its number.
     pub fn ends(&self) -> &[Ends]
         ensures { λ r. ⌜ now r ≡ kept (now (self .entry) .ends) ⌝ }
     {

@@ -25,6 +25,7 @@ pub enum ReadingFault {
 }
 
 impl ReadingFault {
+    /// Layer, number and place.
     pub fn fault(self) -> Fault
         ensures { λ r. ⌜ r ≡ reading-fault self ⌝ }
     {

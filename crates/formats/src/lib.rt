@@ -3,9 +3,10 @@
 pub mod contents;
 pub mod faults;
 pub mod kinds;
+pub mod laws;
 pub mod reading;
 pub mod records;
 pub mod sections;
-pub mod spec_file;
+mod spec_file;
 pub mod specification;
 pub mod tables;

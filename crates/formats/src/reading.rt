@@ -1,5 +1,4 @@
 ghost use mathlib.Core.Path.{_≡_};
-ghost use Prim.Native.Nat.{_+_, _*_};
 ghost use Rattle.std.specs.Options.{Cases as BySome};
 ghost use Rattle.std.specs.Results.{Cases};
 ghost use Rattle.formats.specs.Faults.{reading-fault};
@@ -22,14 +21,14 @@ use crate::specification::Specification;
 
 /// The three sizes of a specification file.
 #[derive(Clone, Copy)]
-pub struct SpecSizes {
-    pub vertices: u16,
-    pub edges: u16,
-    pub blocks: u16,
+struct SpecSizes {
+    vertices: u16,
+    edges: u16,
+    blocks: u16,
 }
 
 /// The sizes of a file, where they are within their limits and the file is as long as they say.
-pub fn sizes(bytes: &[u8]) -> Result<SpecSizes, ReadingFault>
+fn sizes(bytes: &[u8]) -> Result<SpecSizes, ReadingFault>
     ensures { λ r. ⌜ Cases r (λ z. Framed (now (bytes .entry)) × (z .vertices ≡ n-of (now (bytes .entry))) × (z .edges ≡ m-of (now (bytes .entry))) × (z .blocks ≡ b-of (now (bytes .entry)))) (λ e. Refused (now (bytes .entry)) (reading-fault e)) ⌝ }
 {
     if bytes.len() < 6 {
@@ -61,6 +60,7 @@ pub fn sizes(bytes: &[u8]) -> Result<SpecSizes, ReadingFault>
 }
 
 impl<'a> SpecFile<'a> {
+    /// The file with the sizes that were read from it.
     fn new(bytes: &'a [u8], sizes: SpecSizes) -> Self
         requires { ⌜ Framed (now bytes) ⌝ }
         requires { ⌜ (sizes .vertices ≡ n-of (now bytes)) × (sizes .edges ≡ m-of (now bytes)) × (sizes .blocks ≡ b-of (now bytes)) ⌝ }
@@ -79,20 +79,21 @@ impl<'a> SpecFile<'a> {
         }
     }
 
-    pub fn edges(&self) -> Section<'a, SpecEdge>
-        ensures { λ r. ⌜ (now (r .bytes) ≡ now (now (self .entry) .bytes)) × (r .base ≡ edges-from (now (now (self .entry) .bytes))) × (r .count ≡ m-of (now (now (self .entry) .bytes))) ⌝ }
+    /// The sections, in the order in which they stand.
+    fn edges(self) -> Section<'a, SpecEdge>
+        ensures { λ r. ⌜ (now (r .bytes) ≡ now (self .entry .bytes)) × (r .base ≡ edges-from (now (self .entry .bytes))) × (r .count ≡ m-of (now (self .entry .bytes))) ⌝ }
     {
         Section::new(self.bytes, 6, self.edges)
     }
 
-    pub fn vertices(&self) -> Section<'a, Vertex>
-        ensures { λ r. ⌜ (now (r .bytes) ≡ now (now (self .entry) .bytes)) × (r .base ≡ vertices-from (now (now (self .entry) .bytes))) × (r .count ≡ n-of (now (now (self .entry) .bytes))) ⌝ }
+    fn vertices(self) -> Section<'a, Vertex>
+        ensures { λ r. ⌜ (now (r .bytes) ≡ now (self .entry .bytes)) × (r .base ≡ vertices-from (now (self .entry .bytes))) × (r .count ≡ n-of (now (self .entry .bytes))) ⌝ }
     {
         Section::new(self.bytes, 6 + 4 * self.edges as usize, self.vertices)
     }
 
-    pub fn nests(&self) -> Section<'a, Nest>
-        ensures { λ r. ⌜ (now (r .bytes) ≡ now (now (self .entry) .bytes)) × (r .base ≡ nests-from (now (now (self .entry) .bytes))) × (r .count ≡ b-of (now (now (self .entry) .bytes))) ⌝ }
+    fn nests(self) -> Section<'a, Nest>
+        ensures { λ r. ⌜ (now (r .bytes) ≡ now (self .entry .bytes)) × (r .base ≡ nests-from (now (self .entry .bytes))) × (r .count ≡ b-of (now (self .entry .bytes))) ⌝ }
     {
         Section::new(
             self.bytes,
@@ -101,8 +102,8 @@ impl<'a> SpecFile<'a> {
         )
     }
 
-    pub fn ends(&self) -> Section<'a, Ends>
-        ensures { λ r. ⌜ (now (r .bytes) ≡ now (now (self .entry) .bytes)) × (r .base ≡ ends-from (now (now (self .entry) .bytes))) × (r .count ≡ b-of (now (now (self .entry) .bytes))) ⌝ }
+    fn ends(self) -> Section<'a, Ends>
+        ensures { λ r. ⌜ (now (r .bytes) ≡ now (self .entry .bytes)) × (r .base ≡ ends-from (now (self .entry .bytes))) × (r .count ≡ b-of (now (self .entry .bytes))) ⌝ }
     {
         Section::new(
             self.bytes,
@@ -111,8 +112,9 @@ impl<'a> SpecFile<'a> {
         )
     }
 
-    fn bounds(&self) -> Bounds
-        ensures { λ r. ⌜ r ≡ spec-bounds (now (now (self .entry) .bytes)) ⌝ }
+    /// What the numbers of the sections are held against.
+    fn bounds(self) -> Bounds
+        ensures { λ r. ⌜ r ≡ spec-bounds (now (self .entry .bytes)) ⌝ }
     {
         Bounds {
             vertices: self.vertices,
@@ -123,8 +125,8 @@ impl<'a> SpecFile<'a> {
     }
 
     /// The lowest byte position of a number outside its range, in any section.
-    pub fn outside(&self) -> Option<usize>
-        ensures { λ r. ⌜ BySome r (All-inside (now (now (self .entry) .bytes))) (Lowest (Number-outside (now (now (self .entry) .bytes)))) ⌝ }
+    fn outside(self) -> Option<usize>
+        ensures { λ r. ⌜ BySome r (All-inside (now (self .entry .bytes))) (Lowest (Number-outside (now (self .entry .bytes)))) ⌝ }
     {
         let bounds = self.bounds();
         if let Some(at) = self.edges().outside(bounds) {
@@ -140,9 +142,9 @@ impl<'a> SpecFile<'a> {
     }
 
     /// The specification that the file states.
-    fn specification(&self) -> Specification
-        requires { ⌜ All-inside (now (now self .bytes)) ⌝ }
-        ensures { λ r. ⌜ States (now (now (self .entry) .bytes)) r ⌝ }
+    fn specification(self) -> Specification
+        requires { ⌜ All-inside (now (self .bytes)) ⌝ }
+        ensures { λ r. ⌜ States (now (self .entry .bytes)) r ⌝ }
     {
         let edges = self.edges().table();
         let vertices = self.vertices().table();

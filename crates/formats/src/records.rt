@@ -45,6 +45,7 @@ pub trait Record: Copy {
     /// How many it has at least.
     const FLOOR: usize;
 
+    // `made` of two numbers is the record; `first` and `second` give them back, as the two laws say
     ghost kind: { Kind };
 
     ghost made: { ℕ → ℕ → Self };
@@ -61,9 +62,11 @@ pub trait Record: Copy {
     fn limits() -> (usize, usize)
         ensures { λ r. ⌜ r ≡ (kind .floor, kind .ceiling) ⌝ };
 
+    /// The record of two numbers.
     fn make(a: u16, b: u16) -> Self
         ensures { λ r. ⌜ r ≡ made a b ⌝ };
 
+    /// The two numbers that the record is made of.
     fn numbers(&self) -> (u16, u16)
         ensures { λ r. ⌜ r ≡ (first (now (self .entry)), second (now (self .entry))) ⌝ };
 

@@ -7,7 +7,7 @@ ghost use lib.ListN.{length};
 ghost use Rattle.std.specs.Options.{Cases as BySome};
 ghost use Rattle.formats.specs.Words.{word};
 ghost use Rattle.formats.specs.Kinds.{Fits, Within};
-ghost use Rattle.formats.specs.Sections.{first-at, second-at, First-within, Second-within, Scanned, Inside, Outside, Lowest, Ascends, Ascending, Unordered, stated, section};
+ghost use Rattle.formats.specs.Sections.{first-at, second-at, Number-within, Inside, Outside, Lowest, Ascends, Ascending, Unordered, stated, section};
 ghost use Rattle.formats.specs.Tables.{kept};
 use crate::records::Bounds;
 use crate::records::Record;
@@ -24,6 +24,7 @@ pub(crate) fn word_at(bytes: &[u8], at: usize) -> u16
 }
 
 impl Span {
+    /// Whether the span has the number `x`.
     pub fn holds(self, x: u16) -> bool
         ensures { λ r. ⌜ T r ↔ Within self x ⌝ }
     {
@@ -32,7 +33,6 @@ impl Span {
 }
 
 /// A section of one kind of record, read where it lies: `count` records from byte `base`.
-#[derive(Drop)]
 pub struct Section<'a, R> {
     bytes: &'a [u8],
     base: usize,
@@ -41,7 +41,10 @@ pub struct Section<'a, R> {
     ghost inside: { base + 4 * count ≤ length (now bytes) },
 }
 
-impl<'a, R: Record> Section<'a, R> {
+impl<'a, R> Copy for Section<'a, R> {}
+
+impl<'a, R> Section<'a, R> {
+    /// The section of `count` records from byte `base` on.
     pub(crate) fn new(bytes: &'a [u8], base: usize, count: u16) -> Self
         requires { ⌜ base + 4 * count ≤ length (now bytes) ⌝ }
         ensures { λ r. ⌜ (now (r .bytes) ≡ now (bytes .entry)) × (r .base ≡ base) × (r .count ≡ count) ⌝ }
@@ -54,24 +57,18 @@ impl<'a, R: Record> Section<'a, R> {
         }
     }
 
-    /// Whether a section of this kind may have `size` records.
-    pub fn may_have(size: u16) -> bool
-        ensures { λ r. ⌜ T r ↔ Fits (R·Record .kind) size ⌝ }
-    {
-        let (floor, ceiling) = R::limits();
-        floor <= size as usize && size as usize <= ceiling
-    }
-
-    pub(crate) fn first(&self, i: u16) -> u16
-        requires { ⌜ i < now self .count ⌝ }
-        ensures { λ r. ⌜ r ≡ word (now (now (self .entry) .bytes)) (first-at (now (self .entry) .base) (now (self .entry) .count) i) ⌝ }
+    /// The first number of record `i`.
+    pub(crate) fn first(self, i: u16) -> u16
+        requires { ⌜ i < self .count ⌝ }
+        ensures { λ r. ⌜ r ≡ word (now (self .entry .bytes)) (first-at (self .entry .base) (self .entry .count) i) ⌝ }
     {
         word_at(self.bytes, self.base + 2 * i as usize)
     }
 
-    pub(crate) fn second(&self, i: u16) -> u16
-        requires { ⌜ i < now self .count ⌝ }
-        ensures { λ r. ⌜ r ≡ word (now (now (self .entry) .bytes)) (second-at (now (self .entry) .base) (now (self .entry) .count) i) ⌝ }
+    /// The second number of record `i`.
+    pub(crate) fn second(self, i: u16) -> u16
+        requires { ⌜ i < self .count ⌝ }
+        ensures { λ r. ⌜ r ≡ word (now (self .entry .bytes)) (second-at (self .entry .base) (self .entry .count) i) ⌝ }
     {
         word_at(
             self.bytes,
@@ -79,64 +76,10 @@ impl<'a, R: Record> Section<'a, R> {
         )
     }
 
-    /// The record numbered `i`.
-    pub(crate) fn at(&self, i: u16) -> R
-        requires { ⌜ i < now self .count ⌝ }
-        ensures { λ r. ⌜ r ≡ stated (R·Record .made) (now (now (self .entry) .bytes)) (now (self .entry) .base) (now (self .entry) .count) i ⌝ }
-    {
-        R::make(self.first(i), self.second(i))
-    }
-
-    fn first_fits(&self, bounds: Bounds, i: u16) -> bool
-        requires { ⌜ i < now self .count ⌝ }
-        ensures { λ r. ⌜ T r ↔ First-within (R·Record .kind) bounds (now (now (self .entry) .bytes)) (now (self .entry) .base) (now (self .entry) .count) i ⌝ }
-    {
-        R::first_span(bounds, i).holds(self.first(i))
-    }
-
-    fn first_outside(&self, bounds: Bounds) -> Option<usize>
-        ensures { λ r. ⌜ Scanned (First-within (R·Record .kind) bounds (now (now (self .entry) .bytes)) (now (self .entry) .base) (now (self .entry) .count)) (first-at (now (self .entry) .base) (now (self .entry) .count)) (now (self .entry) .count) r ⌝ }
-    {
-        for i in 0..self.count {
-            if !self.first_fits(bounds, i) {
-                return Some(self.base + 2 * i as usize);
-            }
-        }
-        None
-    }
-
-    fn second_fits(&self, bounds: Bounds, i: u16) -> bool
-        requires { ⌜ i < now self .count ⌝ }
-        ensures { λ r. ⌜ T r ↔ Second-within (R·Record .kind) bounds (now (now (self .entry) .bytes)) (now (self .entry) .base) (now (self .entry) .count) i ⌝ }
-    {
-        R::second_span(bounds, i).holds(self.second(i))
-    }
-
-    fn second_outside(&self, bounds: Bounds) -> Option<usize>
-        ensures { λ r. ⌜ Scanned (Second-within (R·Record .kind) bounds (now (now (self .entry) .bytes)) (now (self .entry) .base) (now (self .entry) .count)) (second-at (now (self .entry) .base) (now (self .entry) .count)) (now (self .entry) .count) r ⌝ }
-    {
-        for i in 0..self.count {
-            if !self.second_fits(bounds, i) {
-                return Some(self.base + 2 * (self.count as usize + i as usize));
-            }
-        }
-        None
-    }
-
-    /// The lowest byte position of a number that lies outside its range.
-    pub fn outside(&self, bounds: Bounds) -> Option<usize>
-        ensures { λ r. ⌜ BySome r (Inside (R·Record .kind) bounds (now (now (self .entry) .bytes)) (now (self .entry) .base) (now (self .entry) .count)) (Lowest (Outside (R·Record .kind) bounds (now (now (self .entry) .bytes)) (now (self .entry) .base) (now (self .entry) .count))) ⌝ }
-    {
-        match self.first_outside(bounds) {
-            Some(at) => Some(at),
-            None => self.second_outside(bounds),
-        }
-    }
-
     /// Whether record `i` is above the record before it.
-    fn ascends(&self, i: u16) -> bool
-        requires { ⌜ 0 < i ⌝ ∗ ⌜ i < now self .count ⌝ }
-        ensures { λ r. ⌜ T r ↔ Ascends (now (now (self .entry) .bytes)) (now (self .entry) .base) (now (self .entry) .count) i ⌝ }
+    fn ascends(self, i: u16) -> bool
+        requires { ⌜ 0 < i ⌝ ∗ ⌜ i < self .count ⌝ }
+        ensures { λ r. ⌜ T r ↔ Ascends (now (self .entry .bytes)) (self .entry .base) (self .entry .count) i ⌝ }
     {
         let tail = self.first(i);
         let before = self.first(i - 1);
@@ -144,8 +87,8 @@ impl<'a, R: Record> Section<'a, R> {
     }
 
     /// The byte position of the first record that is not above the record before it.
-    pub fn unordered(&self) -> Option<usize>
-        ensures { λ r. ⌜ BySome r (Ascending (now (now (self .entry) .bytes)) (now (self .entry) .base) (now (self .entry) .count)) (Lowest (Unordered (now (now (self .entry) .bytes)) (now (self .entry) .base) (now (self .entry) .count))) ⌝ }
+    pub fn unordered(self) -> Option<usize>
+        ensures { λ r. ⌜ BySome r (Ascending (now (self .entry .bytes)) (self .entry .base) (self .entry .count)) (Lowest (Unordered (now (self .entry .bytes)) (self .entry .base) (self .entry .count))) ⌝ }
     {
         for i in 1..self.count {
             if !self.ascends(i) {
@@ -154,11 +97,55 @@ impl<'a, R: Record> Section<'a, R> {
         }
         None
     }
+}
+
+impl<'a, R: Record> Section<'a, R> {
+    /// Whether a section of this kind may have `size` records.
+    pub fn may_have(size: u16) -> bool
+        ensures { λ r. ⌜ T r ↔ Fits (R·Record .kind) size ⌝ }
+    {
+        let (floor, ceiling) = R::limits();
+        floor <= size as usize && size as usize <= ceiling
+    }
+
+    /// The record numbered `i`.
+    pub(crate) fn at(self, i: u16) -> R
+        requires { ⌜ i < self .count ⌝ }
+        ensures { λ r. ⌜ r ≡ stated (R·Record .made) (now (self .entry .bytes)) (self .entry .base) (self .entry .count) i ⌝ }
+    {
+        R::make(self.first(i), self.second(i))
+    }
+
+    /// Whether number `k` of the section lies in its range; all first numbers come before all second ones.
+    fn fits(self, bounds: Bounds, k: u32) -> bool
+        requires { ⌜ k < 2 * self .count ⌝ }
+        ensures { λ r. ⌜ T r ↔ Number-within (R·Record .kind) bounds (now (self .entry .bytes)) (self .entry .base) (self .entry .count) k ⌝ }
+    {
+        let number = word_at(self.bytes, self.base + 2 * k as usize);
+        let count = self.count as u32;
+        if k < count {
+            R::first_span(bounds, k as u16).holds(number)
+        } else {
+            R::second_span(bounds, (k - count) as u16).holds(number)
+        }
+    }
+
+    /// The lowest byte position of a number that lies outside its range.
+    pub fn outside(self, bounds: Bounds) -> Option<usize>
+        ensures { λ r. ⌜ BySome r (Inside (R·Record .kind) bounds (now (self .entry .bytes)) (self .entry .base) (self .entry .count)) (Lowest (Outside (R·Record .kind) bounds (now (self .entry .bytes)) (self .entry .base) (self .entry .count))) ⌝ }
+    {
+        for k in 0..2 * self.count as u32 {
+            if !self.fits(bounds, k) {
+                return Some(self.base + 2 * k as usize);
+            }
+        }
+        None
+    }
 
     /// All records, copied to a table.
-    pub(crate) fn table<const N: usize>(&self) -> Table<R, N>
-        requires { ⌜ now self .count ≤ N ⌝ }
-        ensures { λ r. ⌜ kept r ≡ section (R·Record .made) (now (now (self .entry) .bytes)) (now (self .entry) .base) (now (self .entry) .count) ⌝ }
+    pub(crate) fn table<const N: usize>(self) -> Table<R, N>
+        requires { ⌜ self .count ≤ N ⌝ }
+        ensures { λ r. ⌜ kept r ≡ section (R·Record .made) (now (self .entry .bytes)) (self .entry .base) (self .entry .count) ⌝ }
     {
         let mut table = Table::new(R::make(0, 0));
         for i in 0..self.count {

@@ -3,8 +3,8 @@ ghost use denote.Ref.{now};
 ghost use Rattle.formats.specs.SpecFiles.{Framed, n-of, m-of, b-of};
 
 /// The bytes of a specification file whose sizes and length are right.
-#[derive(Drop)]
-pub struct SpecFile<'a> {
+#[derive(Clone, Copy)]
+pub(crate) struct SpecFile<'a> {
     pub(crate) bytes: &'a [u8],
     pub(crate) vertices: u16,
     pub(crate) edges: u16,

@@ -1,7 +1,7 @@
 ghost use mathlib.Core.Path.{_≡_};
 ghost use mathlib.Core.List.{[], _∷_, _++_};
 ghost use mathlib.Core.Bool.{cond};
-ghost use Prim.Native.Nat.{_+_, _≤_};
+ghost use Prim.Native.Nat.{_+_, _<_, _≤_};
 ghost use lib.Dec.{ltb};
 ghost use lib.ListN.{take};
 use std::alloc::AllocError;
@@ -35,6 +35,18 @@ impl<T: Copy, const N: usize> Table<T, N> {
         }
     }
 
+    /// A table of one item.
+    pub(crate) fn only(item: T) -> Self
+        requires { ⌜ 0 < N ⌝ }
+        ensures { λ r. ⌜ take (r .len) (r .items) ≡ item ∷ [] ⌝ }
+    {
+        Table {
+            items: [item; N],
+            len: 1,
+        }
+    }
+
+    /// How many items the table holds.
     pub fn len(&self) -> usize
         ensures { λ r. ⌜ r ≡ now (self .entry) .len ⌝ }
     {
@@ -56,6 +68,7 @@ impl<T: Copy, const N: usize> Table<T, N> {
         true
     }
 
+    /// The items, in the order in which they were pushed.
     pub fn as_slice(&self) -> &[T]
         ensures { λ r. ⌜ now r ≡ take (now (self .entry) .len) (now (self .entry) .items) ⌝ }
     {

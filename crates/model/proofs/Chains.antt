@@ -1,20 +1,10 @@
--- Chains of parents.
-use mathlib.Core.Path.{_≡_, refl, sym, ap, subst, _∙_}
-use mathlib.Core.Logic.{_≢_, _⊎_, inl, inr, ⊎-elim}
-use Prim.Native.Nat.{ℕ, zero, suc, _≤_, _<_, _+_}
+-- Chains of parents, of blocks and of copies alike: what stands in one chain, where two chains split, and how far from 0 a number lies.
+use mathlib.Core.Path.{_≡_, refl, sym, ap, _∙_}
+use mathlib.Core.Logic.{_≢_, _⊎_, inl, inr}
+use Prim.Native.Nat.{ℕ, zero, suc, _≤_, _<_}
 use native.Mathlib.Omega.{arith}
-use native.Mathlib.Decide.{ℕ-discrete, decLe, decLt}
 use Rattle.model.specs.Forests.{Chain, stop, up, Falls, Split, Depth, at-zero, under}
-
-pub same-or : (i j : ℕ) → (i ≡ j) ⊎ (i ≢ j)
-same-or i j = elim (ℕ-discrete i j) [ yes e ↦ inl e | no f ↦ inr f ]
-
-pub less-or : (i j : ℕ) → (i < j) ⊎ (j ≤ i)
-less-or i j = elim (decLt i j) [ yes e ↦ inl e | no f ↦ inr (omega arith) ]
-
-pub zero-or : (q : ℕ) → (q ≡ 0) ⊎ (0 < q)
-zero-or zero = inl refl
-zero-or (suc q) = inr (omega arith)
+use Rattle.model.proofs.Cases.{cases, same-or, zero-or}
 
 pub chain-join : {p : ℕ → ℕ} {i j k : ℕ} → Chain p i j → Chain p j k → Chain p i k
 chain-join stop d = d
@@ -27,15 +17,12 @@ chain-eq {p} {i} e = rw (← e) stop
 pub over : {p : ℕ → ℕ} {i s t d : ℕ} → Chain p i s → p s ≡ p t → Chain p (p t) d → Chain p i d
 over {p} {i} {s} {t} {d} c e k = chain-join c (up (rw e k))
 
-pub cases : {A B C : Type 0} → A ⊎ B → (A → C) → (B → C) → C
-cases (inl a) f g = f a
-cases (inr b) f g = g b
-
 -- strictly above goes through the parent
 pub chain-parent : {p : ℕ → ℕ} {i j : ℕ} → Chain p i j → (i ≡ j) ⊎ Chain p (p i) j
 chain-parent stop = inl refl
 chain-parent (up c) = inr c
 
+-- of two in one chain, one stands in the chain of the other
 pub comparable : {p : ℕ → ℕ} {i a b : ℕ} → Chain p i a → Chain p i b → Chain p a b ⊎ Chain p b a
 comparable stop d = inl d
 comparable (up c) stop = inr (up c)
@@ -46,12 +33,45 @@ pub chain-child : {p : ℕ → ℕ} {i j : ℕ} → Chain p i j → (i ≡ j) �
 chain-child stop = inl refl
 chain-child {p} {i} {j} (up c) = go (same-or i j) (chain-child c)
   where
-    go : (i ≡ j) ⊎ (i ≢ j) → (p i ≡ j) ⊎ ((k : ℕ) × Chain p (p i) k × (p k ≡ j) × (k ≢ j)) → (i ≡ j) ⊎ ((k : ℕ) × Chain p i k × (p k ≡ j) × (k ≢ j))
+    go : (i ≡ j) ⊎ (i ≢ j) → (p i ≡ j) ⊎ ((k : ℕ) × Chain p (p i) k × (p k ≡ j) × (k ≢ j))
+        → (i ≡ j) ⊎ ((k : ℕ) × Chain p i k × (p k ≡ j) × (k ≢ j))
     go (inl e) h = inl e
     go (inr f) (inl e) = inr (i, stop, e, f)
     go (inr f) (inr h) = inr (h .0, up (h .1), h .2, h .3)
 
+-- a split seen from lower down: from what has i, or j, in its chain
+pub split-left : {p : ℕ → ℕ} {i i′ j s t : ℕ} → Chain p i′ i → Split p i j s t → Split p i′ j s t
+split-left c x = record {
+  left = chain-join c (x .left);
+  right = x .right;
+  left-pos = x .left-pos;
+  right-pos = x .right-pos;
+  same-parent = x .same-parent;
+}
+
+pub split-right : {p : ℕ → ℕ} {i j j′ s t : ℕ} → Chain p j′ j → Split p i j s t → Split p i j′ s t
+split-right c x = record {
+  left = x .left;
+  right = chain-join c (x .right);
+  left-pos = x .left-pos;
+  right-pos = x .right-pos;
+  same-parent = x .same-parent;
+}
+
+pub split-flip : {p : ℕ → ℕ} {i j s t : ℕ} → Split p i j s t → Split p j i t s
+split-flip x = record {
+  left = x .right;
+  right = x .left;
+  left-pos = x .right-pos;
+  right-pos = x .left-pos;
+  same-parent = sym (x .same-parent);
+}
+
 module _ {p : ℕ → ℕ} (f : Falls p) where
+  -- only 0 is its own parent
+  pub child-pos : {k j : ℕ} → p k ≡ j → k ≢ j → 0 < k
+  child-pos {k} {j} e d = cases (zero-or k) (λ z. absurd (d (z ∙ sym (f .zero-parent) ∙ ap p (sym z) ∙ e))) (λ h. h)
+
   parent-le : (i : ℕ) → p i ≤ i
   parent-le zero = omega (arith, f .zero-parent)
   parent-le (suc i) = let h : p (suc i) < suc i = f .falls (suc i) (omega arith) in omega arith
@@ -60,27 +80,20 @@ module _ {p : ℕ → ℕ} (f : Falls p) where
   chain-le stop = omega arith
   chain-le {i} (up c) = omega (arith, chain-le c, parent-le i)
 
-  pub chain-antisym : {i j : ℕ} → Chain p i j → Chain p j i → i ≡ j
-  chain-antisym c d = omega (arith, chain-le c, chain-le d)
-
-  pub strictly-not : {i j : ℕ} → 0 < i → Chain p (p i) j → j < i
+  strictly-not : {i j : ℕ} → 0 < i → Chain p (p i) j → j < i
   strictly-not {i} h c = omega (arith, chain-le c, f .falls i h)
 
-  chain-dec-fuel : (m i j : ℕ) → i ≤ m → Dec (Chain p i j)
-  chain-dec-fuel m zero zero h = yes stop
-  chain-dec-fuel m zero (suc j) h = no (λ c. omega (arith, chain-le c))
-  chain-dec-fuel zero (suc i) j h = absurd (omega arith)
-  chain-dec-fuel (suc m) (suc i) j h =
-      elim (ℕ-discrete (suc i) j) [
-        | yes e ↦ yes (chain-eq e)
-        | no d ↦ elim (chain-dec-fuel m (p (suc i)) j (omega (arith, f .falls (suc i) (omega arith)))) [
-          | yes c ↦ yes (up c)
-          | no g ↦ no (λ c. elim (chain-parent c) [ inl e ↦ d e | inr c′ ↦ g c′ ])
-        ]
-      ]
-
   pub chain-dec : (i j : ℕ) → Chain p i j ⊎ (¬ (Chain p i j))
-  chain-dec i j = elim (chain-dec-fuel i i j (omega arith)) [ yes c ↦ inl c | no g ↦ inr g ]
+  chain-dec i j = go i i (omega arith)
+    where
+      go : (m i : ℕ) → i ≤ m → Chain p i j ⊎ (¬ (Chain p i j))
+      go m zero h = cases (zero-or j) (λ e. inl (chain-eq (sym e))) (λ z. inr (λ c. omega (arith, chain-le c)))
+      go zero (suc i) h = absurd (omega arith)
+      go (suc m) (suc i) h = cases (same-or (suc i) j)
+          (λ e. inl (chain-eq e))
+          (λ d. cases (go m (p (suc i)) (omega (arith, f .falls (suc i) (omega arith))))
+          (λ c. inl (up c))
+          (λ g. inr (λ c. cases (chain-parent c) d g)))
 
   pub above-zero : (i : ℕ) → Chain p i 0
   above-zero i = go i i (omega arith)
@@ -92,34 +105,32 @@ module _ {p : ℕ → ℕ} (f : Falls p) where
 
   -- no two children of one parent stand in one chain
   pub no-rung-twice : {i s t : ℕ} → Chain p i s → Chain p i t → 0 < s → 0 < t → p s ≡ p t → s ≡ t
-  no-rung-twice {i} {s} {t} c d hs ht e = ⊎-elim
-      (λ x. ⊎-elim (λ y. y) (λ y. absurd (omega (arith, strictly-not ht (rw e at y)))) (chain-parent x))
-      (λ x. ⊎-elim (λ y. sym y) (λ y. absurd (omega (arith, strictly-not hs (rw (← e) at y)))) (chain-parent x))
-      (comparable c d)
+  no-rung-twice {i} {s} {t} c d hs ht e = cases (comparable c d)
+      (λ x. cases (chain-parent x) (λ y. y) (λ y. absurd (omega (arith, strictly-not ht (rw e at y)))))
+      (λ x. cases (chain-parent x) (λ y. sym y) (λ y. absurd (omega (arith, strictly-not hs (rw (← e) at y)))))
 
-  pub split-flip : {i j s t : ℕ} → Split p i j s t → Split p j i t s
-  split-flip x = record { left = x .right; right = x .left; left-pos = x .right-pos; right-pos = x .left-pos; same-parent = sym (x .same-parent) }
+  -- a chain does not split from itself
+  pub split-self : {i s t : ℕ} → Split p i i s t → s ≡ t
+  split-self x = no-rung-twice (x .left) (x .right) (x .left-pos) (x .right-pos) (x .same-parent)
 
-  -- where the left children of two splits differ, the upper stands in both chains
+  -- Two chains split at one place. Were the left child of one split strictly below that of another, the other two children would stand
+  -- in one chain.
   one-left-le : {i j s t s′ t′ : ℕ} → Split p i j s t → s ≢ t → Split p i j s′ t′ → Chain p s′ s → s′ ≡ s
-  one-left-le x d y c = ⊎-elim (λ e. e)
-      (λ u. absurd (d (no-rung-twice (chain-join (y .right) (up (rw (y .same-parent) at u))) (x .right) (x .left-pos) (x .right-pos) (x .same-parent))))
-      (chain-parent c)
+  one-left-le x d y c = cases (chain-parent c) (λ e. e) λ u.
+      let both : Chain p _ _ = over (y .right) (sym (y .same-parent)) u in
+      absurd (d (no-rung-twice both (x .right) (x .left-pos) (x .right-pos) (x .same-parent)))
 
   pub one-left : {i j s t s′ t′ : ℕ} → Split p i j s t → s ≢ t → Split p i j s′ t′ → s′ ≢ t′ → s ≡ s′
-  one-left x d y d′ = ⊎-elim (λ c. one-left-le y d′ x c) (λ c. sym (one-left-le x d y c)) (comparable (x .left) (y .left))
+  one-left x d y d′ = cases (comparable (x .left) (y .left)) (λ c. one-left-le y d′ x c) (λ c. sym (one-left-le x d y c))
 
   pub one-right : {i j s t s′ t′ : ℕ} → Split p i j s t → s ≢ t → Split p i j s′ t′ → s′ ≢ t′ → t ≡ t′
-  one-right {i} {j} {s} {t} {s′} {t′} x d y d′ =
-      let e : p t ≡ p t′ = sym (x .same-parent) ∙ ap p (one-left x d y d′) ∙ y .same-parent in
-      no-rung-twice (x .right) (y .right) (x .right-pos) (y .right-pos) e
+  one-right x d y d′ = one-left (split-flip x) (λ e. d (sym e)) (split-flip y) (λ e. d′ (sym e))
 
-  -- a split below a common copy: where d is in the chain of i, and t is in the chain of j below it ..
+  -- where two chains split, d in one of them stands at or below the split, or else in the other chain too
   pub above-split : {i j s t d : ℕ} → Split p i j s t → Chain p j d → Chain p d t ⊎ Chain p i d
-  above-split x c = ⊎-elim
-      (λ u. ⊎-elim (λ e. inl (chain-eq (sym e))) (λ w. inr (chain-join (x .left) (up (rw (← x .same-parent) at w)))) (chain-parent u))
-      (λ u. inl u)
-      (comparable (x .right) c)
+  above-split x c = cases (comparable (x .right) c)
+      (λ u. cases (chain-parent u) (λ e. inl (chain-eq (sym e))) (λ w. inr (over (x .left) (x .same-parent) w)))
+      inl
 
   pub depth-of : (k : ℕ) → (d : ℕ) × Depth p k d
   depth-of k = go k k (omega arith)
@@ -127,7 +138,9 @@ module _ {p : ℕ → ℕ} (f : Falls p) where
       go : (m k : ℕ) → k ≤ m → (d : ℕ) × Depth p k d
       go m zero h = (0, at-zero)
       go zero (suc k) h = absurd (omega arith)
-      go (suc m) (suc k) h = let w = go m (p (suc k)) (omega (arith, f .falls (suc k) (omega arith))) in (suc (w .0), under (omega arith) (w .1))
+      go (suc m) (suc k) h =
+          let w = go m (p (suc k)) (omega (arith, f .falls (suc k) (omega arith))) in
+          (suc (w .0), under (omega arith) (w .1))
 
   depth-zero : {k d : ℕ} → k ≡ 0 → Depth p k d → d ≡ 0
   depth-zero e at-zero = refl

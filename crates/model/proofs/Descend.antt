@@ -1,16 +1,17 @@
--- A step below a given copy with a given origin.
-use mathlib.Core.Path.{_≡_, refl, sym, ap, subst, _∙_}
-use mathlib.Core.Logic.{_≢_, _⊎_, inl, inr, ⊎-elim}
+-- Steps below a copy: from a copy down to a given vertex by last loop copies, and the same with the chain of another copy followed as far as
+-- it goes. The tails of derived edges are found so.
+use mathlib.Core.Path.{_≡_, sym, ap, _∙_}
+use mathlib.Core.Logic.{_⊎_, inl, inr}
 use Prim.Native.Nat.{ℕ, zero, suc, _≤_, _<_, _+_}
 use native.Mathlib.Omega.{arith}
-use Rattle.model.specs.Paths.{Path*, here, step}
-use Rattle.model.specs.Forests.{Chain, stop, up, Split}
-use Rattle.model.specs.Specifications.{Spec, Edge, Domain, Loop-rule, Sealed}
-use Rattle.model.specs.Runs.{Run, Conforms, Mate, Next, First, Last, Firsts, Lasts}
+use Rattle.model.specs.Forests.{Chain, up}
+use Rattle.model.specs.Specifications.{Spec, Domain, Sealed}
+use Rattle.model.specs.Runs.{Run, Conforms, Last, Lasts}
 use Rattle.model.specs.Relating.{Apart, Earlier}
-use Rattle.model.proofs.Chains.{same-or, zero-or, cases, over, chain-le, chain-eq, chain-parent, chain-child, chain-dec, chain-join, comparable, no-rung-twice, above-split}
+use Rattle.model.proofs.Cases.{cases, same-or}
+use Rattle.model.proofs.Chains.{chain-le, chain-eq, chain-parent, chain-child, chain-join, child-pos, comparable, no-rung-twice, split-self, split-right, above-split}
 use Rattle.model.proofs.Sealing.{in-range}
-use Rattle.model.proofs.Copies.{chain-range, maps, unique, agree, block-pos, copy-range, next-pos, earlier, apart}
+use Rattle.model.proofs.Copies.{chain-range, mates-earlier}
 use Rattle.model.proofs.Groups.{last-of, lasts-self, mate-turn}
 
 -- the step v has origin y and stands below the copy d, by last loop copies
@@ -20,11 +21,8 @@ pub record Lands (s : Spec) (r : Run) (d y v : ℕ) : Type 0 where
   pub land-below : Chain (r .parent) (r .context v) d
   pub land-lasts : Lasts s r (r .context v) d
 
--- from the chain of i, j is not apart or later
-abbrev pub Fine : Spec → Run → ℕ → ℕ → Type 0
-Fine s r i j = (¬ (Apart r i j)) ⊎ Earlier s r i j
-
 module _ {s : Spec} {r : Run} (S : Sealed s) (C : Conforms s r) where
+  -- a step below e is a step below its parent, where e, if a loop copy, is the last of its group
   lower : {d e y v : ℕ} → r .parent e ≡ d → (s .kind (r .block e) ≡ 2 → Last r e) → Lands s r e y v → Lands s r d y v
   lower {d} {e} {y} {v} q f l = record {
     land-range = l .land-range;
@@ -32,114 +30,142 @@ module _ {s : Spec} {r : Run} (S : Sealed s) (C : Conforms s r) where
     land-below = chain-join (l .land-below) (up (chain-eq q));
     land-lasts = λ t a b g k. cases (comparable a (l .land-below))
         (λ c. cases (same-or t e) (λ x. rw (← x) at (f (rw x at k))) (λ x. l .land-lasts t a c x k))
-        (λ c. cases (chain-parent c) (λ x. rw x at (f (rw (← x) at k))) (λ x. absurd (g (omega (arith, chain-le (C .tree) x, chain-le (C .tree) b, q)))));
+        (λ c. cases (chain-parent c)
+        (λ x. rw x at (f (rw (← x) at k)))
+        (λ x. absurd (g (omega (arith, chain-le (C .tree) x, chain-le (C .tree) b, q)))));
   }
 
   land-here : (d y : ℕ) → d < r .c → y < s .n → s .home y ≡ r .block d → (v : ℕ) × Lands s r d y v × (r .context v ≡ d)
   land-here d y hd hy e =
-      let u = C .one-step d y hd hy e in
-      (u .0, record { land-range = u .1; land-origin = u .3; land-below = chain-eq (u .2); land-lasts = lasts-self s (C .tree) (u .2) }, u .2)
+      let u = C .one-step d y hd hy e in (
+        u .0,
+        record { land-range = u .1; land-origin = u .3; land-below = chain-eq (u .2); land-lasts = lasts-self s (C .tree) (u .2) },
+        u .2,
+      )
 
-  -- the child of d on the way to y, and how it is nearer
-  record Way (d y m : ℕ) : Type 0 where
+  -- the block on the way from the block of d down to the home of y
+  record Way (d y : ℕ) : Type 0 where
     way-k : ℕ
     way-in : Domain s way-k y
     way-above : s .above way-k ≡ r .block d
     way-pos : 0 < way-k
     way-range : way-k < s .b
-    way-m : ℕ
-    way-less : m ≡ suc way-m
-    way-fuel : s .home y ≤ way-k + way-m
+    way-nearer : r .block d < way-k
 
-  way-of : (m d y : ℕ) → y < s .n → Domain s (r .block d) y → s .home y ≤ r .block d + m → (s .home y ≡ r .block d) ⊎ Way d y m
-  way-of zero d y hy i l = inl (omega (arith, chain-le (S .ranges .nest) i))
-  way-of (suc m) d y hy i l = cases (chain-child i) inl λ k.
-      let z : 0 < k .0 = cases (zero-or (k .0)) (λ e. absurd (k .3 (e ∙ sym (S .ranges .nest .zero-parent) ∙ ap (s .above) (sym e) ∙ k .2))) (λ x. x) in
+  way-of : (d y : ℕ) → y < s .n → Domain s (r .block d) y → (s .home y ≡ r .block d) ⊎ Way d y
+  way-of d y hy i = cases (chain-child i) inl λ k.
+      let z : 0 < k .0 = child-pos (S .ranges .nest) (k .2) (k .3) in
       inr (record {
         way-k = k .0;
         way-in = k .1;
         way-above = k .2;
         way-pos = z;
         way-range = in-range S (k .1) hy;
-        way-m = m;
-        way-less = refl;
-        way-fuel = omega (arith, S .ranges .nest .falls (k .0) z, k .2);
+        way-nearer = omega (arith, S .ranges .nest .falls (k .0) z, k .2);
       })
 
+  -- the home of y has the highest number on the way down to it
+  way-ends : {d y : ℕ} (w : Way d y) → s .home y ≤ r .block d → ⊥
+  way-ends w l = omega (arith, w .way-nearer, chain-le (S .ranges .nest) (w .way-in))
+
   -- the last copy of block k under d
-  last-child : (d k : ℕ) → d < r .c → 0 < k → k < s .b → s .above k ≡ r .block d → (e : ℕ) × (e < r .c) × (0 < e) × (r .parent e ≡ d) × (r .block e ≡ k) × Last r e
-  last-child d k hd hk hb a =
-      let j = C .children d k hd hk hb a in
+  record End (d k : ℕ) : Type 0 where
+    end : ℕ
+    end-range : end < r .c
+    end-pos : 0 < end
+    end-parent : r .parent end ≡ d
+    end-block : r .block end ≡ k
+    end-last : Last r end
+
+  end-of : {d y : ℕ} (w : Way d y) → d < r .c → End d (w .way-k)
+  end-of {d} w hd =
+      let j = C .children d (w .way-k) hd (w .way-pos) (w .way-range) (w .way-above) in
       let e = last-of (j .0) (j .1) (j .2) in
-      (e .0, e .1 .exists, e .1 .not-zero, e .1 .one-parent ∙ j .3, e .1 .one-block ∙ j .4, e .2)
+      record {
+        end = e .0;
+        end-range = e .1 .exists;
+        end-pos = e .1 .not-zero;
+        end-parent = e .1 .one-parent ∙ j .3;
+        end-block = e .1 .one-block ∙ j .4;
+        end-last = e .2;
+      }
 
-  descend-go : (m d y : ℕ) → d < r .c → y < s .n → Domain s (r .block d) y → s .home y ≤ r .block d + m → (v : ℕ) × Lands s r d y v
-  descend-go zero d y hd hy i l = let u = land-here d y hd hy (omega (arith, chain-le (S .ranges .nest) i)) in (u .0, u .1)
-  descend-go (suc m) d y hd hy i l = cases (way-of (suc m) d y hy i l)
-      (λ e. let u = land-here d y hd hy e in (u .0, u .1))
-      (λ w. let e = last-child d (w .way-k) hd (w .way-pos) (w .way-range) (w .way-above) in
-      let u = descend-go m (e .0) y (e .1) hy (rw (e .4) (w .way-in)) (omega (arith, e .4, w .way-fuel, w .way-less)) in
-      (u .0, lower (e .3) (λ k. e .5) (u .1)))
-
+  -- down to y by last copies
   pub descend : (d y : ℕ) → d < r .c → y < s .n → Domain s (r .block d) y → (v : ℕ) × Lands s r d y v
-  descend d y hd hy i = descend-go (s .home y) d y hd hy i (omega arith)
+  descend d y hd hy i = go (s .home y) d hd i (omega arith)
+    where
+      home : (d : ℕ) → d < r .c → s .home y ≡ r .block d → (v : ℕ) × Lands s r d y v
+      home d hd e = let u = land-here d y hd hy e in (u .0, u .1)
 
-  -- the same, following the chain of i
+      go : (m d : ℕ) → d < r .c → Domain s (r .block d) y → s .home y ≤ r .block d + m → (v : ℕ) × Lands s r d y v
+      go zero d hd i l = cases (way-of d y hy i) (home d hd) (λ w. absurd (way-ends w (omega arith)))
+      go (suc m) d hd i l = cases (way-of d y hy i) (home d hd) λ w.
+          let e = end-of w hd in
+          let u = go m (e .end) (e .end-range) (rw (e .end-block) (w .way-in)) (omega (arith, e .end-block, w .way-nearer)) in
+          (u .0, lower (e .end-parent) (λ k. e .end-last) (u .1))
+
+  -- the same, following the chain of i: from i's copies the step is not apart, or later
   abbrev Follows : ℕ → ℕ → ℕ → Type 0
-  Follows d y i = (v : ℕ) × Lands s r d y v × Fine s r i (r .context v)
+  Follows d y i = (v : ℕ) × Lands s r d y v × ((¬ (Apart r i (r .context v))) ⊎ Earlier s r i (r .context v))
 
   follow-home : (d y i : ℕ) → d < r .c → y < s .n → s .home y ≡ r .block d → Chain (r .parent) i d → Follows d y i
   follow-home d y i hd hy e id =
       let u = land-here d y hd hy e in
-      (u .0, u .1, inl (λ A. A .differ (no-rung-twice (C .tree) (A .split .left) (chain-join id (rw (u .2) at (A .split .right))) (A .split .left-pos) (A .split .right-pos) (A .split .same-parent))))
+      (u .0, u .1, inl (λ A. A .differ (split-self (C .tree) (split-right (chain-join id (chain-eq (sym (u .2)))) (A .split)))))
 
-  -- the chain of i ends at d, or goes on to another block than k
-  follow-fresh : (d y i k : ℕ) → d < r .c → y < s .n → Domain s k y → 0 < k → k < s .b → s .above k ≡ r .block d → Chain (r .parent) i d
-      → ((q : ℕ) → Chain (r .parent) i q → 0 < q → r .parent q ≡ d → r .block q ≡ k → ⊥) → Follows d y i
-  follow-fresh d y i k hd hy y-in hk hb a id none =
-      let e = last-child d k hd hk hb a in
-      let u = descend (e .0) y (e .1) hy (rw (e .4) y-in) in (
-        u .0,
-        lower (e .3) (λ x. e .5) (u .1),
-        inl (λ A.
-            cases (above-split (C .tree) (A .split) (u .1 .land-below))
-            (λ c. cases (chain-parent c)
-            (λ q. none (A .s) (A .split .left) (A .split .left-pos) (A .split .same-parent ∙ ap (r .parent) (sym q) ∙ e .3) (A .same-block ∙ ap (r .block) (sym q) ∙ e .4))
-            (λ c′. A .differ (no-rung-twice (C .tree) (A .split .left) (chain-join id (rw (e .3) at c′)) (A .split .left-pos) (A .split .right-pos) (A .split .same-parent))))
-            (λ c. none (e .0) c (e .2) (e .3) (e .4))),
-      )
-
-  follow-go : (m d y i : ℕ) → i < r .c → Chain (r .parent) i d → y < s .n → Domain s (r .block d) y → s .home y ≤ r .block d + m → Follows d y i
-  follow-go zero d y i hi id hy y-in l = follow-home d y i (chain-range S C hi id) hy (omega (arith, chain-le (S .ranges .nest) y-in)) id
-  follow-go (suc m) d y i hi id hy y-in l = cases (way-of (suc m) d y hy y-in l)
-      (λ e. follow-home d y i hd hy e id)
-      (λ w.
-      let fresh : ((q : ℕ) → Chain (r .parent) i q → 0 < q → r .parent q ≡ d → r .block q ≡ w .way-k → ⊥) → Follows d y i
-      = follow-fresh d y i (w .way-k) hd hy (w .way-in) (w .way-pos) (w .way-range) (w .way-above) id in
-      cases (chain-child id)
-      (λ e. fresh (λ q c z f b. omega (arith, e, chain-le (C .tree) c, C .tree .falls q z, f)))
-      (λ q.
-      let z : 0 < q .0 = cases (zero-or (q .0)) (λ e. absurd (q .3 (e ∙ sym (C .tree .zero-parent) ∙ ap (r .parent) (sym e) ∙ q .2))) (λ x. x) in
-      cases (same-or (r .block (q .0)) (w .way-k))
-      (λ e.
-      let hq : q .0 < r .c = chain-range S C hi (q .1) in
-      let on : Follows (q .0) y i = follow-go m (q .0) y i hi (q .1) hy (rw e (w .way-in)) (omega (arith, e, w .way-fuel, w .way-less)) in
-      cases (S .ranges .kinds (w .way-k) (w .way-pos) (w .way-range))
-      (λ k. (on .0, lower (q .2) (λ k′. absurd (omega (arith, k, k′, ap (s .kind) e))) (on .1), on .2))
-      (λ k.
-      let b = last-of {r = r} (q .0) hq z in
-      cases (same-or (b .0) (q .0))
-      (λ x. (on .0, lower (q .2) (λ k′. rw x at (b .2)) (on .1), on .2))
-      (λ x.
-      let u = descend (b .0) y (b .1 .exists) hy (rw (b .1 .one-block ∙ e) (w .way-in)) in (
-        u .0,
-        lower (b .1 .one-parent ∙ q .2) (λ k′. b .2) (u .1),
-        inr (earlier S C (q .1) (u .1 .land-below) z (sym (b .1 .one-parent)) (sym (b .1 .one-block)) (omega (arith, x, b .2 (q .0) (mate-turn hq z (b .1)))) (ap (s .kind) e ∙ k)),
-      ))))
-      (λ g. fresh (λ q′ c z′ f b. g (ap (r .block) (no-rung-twice (C .tree) (q .1) c z z′ (q .2 ∙ sym f)) ∙ b)))))
+  -- the chain of i ends at d, or goes on to another block: go down by last copies
+  follow-fresh : {d y i : ℕ} → d < r .c → y < s .n → (w : Way d y) → Chain (r .parent) i d
+      → ((q : ℕ) → Chain (r .parent) i q → 0 < q → r .parent q ≡ d → r .block q ≡ w .way-k → ⊥) → Follows d y i
+  follow-fresh {d} {y} {i} hd hy w id none = (u .0, lower (e .end-parent) (λ x. e .end-last) (u .1), inl near)
     where
-      hd : d < r .c
-      hd = chain-range S C hi id
+      e : End d (w .way-k)
+      e = end-of w hd
+
+      u : (v : ℕ) × Lands s r (e .end) y v
+      u = descend (e .end) y (e .end-range) hy (rw (e .end-block) (w .way-in))
+
+      near : ¬ (Apart r i (r .context (u .0)))
+      near A = cases (above-split (C .tree) (A .split) (u .1 .land-below))
+          (λ c. cases (chain-parent c)
+          (λ q. none (A .s) (A .split .left) (A .split .left-pos)
+          (A .split .same-parent ∙ ap (r .parent) (sym q) ∙ e .end-parent)
+          (A .same-block ∙ ap (r .block) (sym q) ∙ e .end-block))
+          (λ c′. A .differ (no-rung-twice (C .tree) (A .split .left) (chain-join id (rw (e .end-parent) at c′))
+          (A .split .left-pos) (A .split .right-pos) (A .split .same-parent))))
+          (λ c. none (e .end) c (e .end-pos) (e .end-parent) (e .end-block))
+
+  -- The chain of i goes on to a copy q of the block on the way. Of a fork, go on from q; of a loop, from the last copy of the group, which is
+  -- q or a later turn.
+  follow-down : {d y i q : ℕ} → q < r .c → y < s .n → (w : Way d y) → Chain (r .parent) i q → 0 < q → r .parent q ≡ d → r .block q ≡ w .way-k
+      → Follows q y i → Follows d y i
+  follow-down {d} {y} {i} {q} hq hy w iq z qd e on = cases (S .ranges .kinds (w .way-k) (w .way-pos) (w .way-range)) fork loop
+    where
+      fork : s .kind (w .way-k) ≡ 1 → Follows d y i
+      fork k = (on .0, lower qd (λ k′. absurd (omega (arith, k, k′, ap (s .kind) e))) (on .1), on .2)
+
+      loop : s .kind (w .way-k) ≡ 2 → Follows d y i
+      loop k =
+          let b = last-of {r = r} q hq z in
+          cases (same-or (b .0) q)
+          (λ x. (on .0, lower qd (λ k′. rw x at (b .2)) (on .1), on .2))
+          (λ x.
+          let u = descend (b .0) y (b .1 .exists) hy (rw (b .1 .one-block ∙ e) (w .way-in)) in
+          let l : q < b .0 = omega (arith, x, b .2 q (mate-turn hq z (b .1))) in
+          (u .0, lower (b .1 .one-parent ∙ qd) (λ k′. b .2) (u .1), inr (mates-earlier iq (u .1 .land-below) z (b .1) l (ap (s .kind) e ∙ k))))
 
   pub follow : (d y i : ℕ) → i < r .c → Chain (r .parent) i d → y < s .n → Domain s (r .block d) y → Follows d y i
-  follow d y i hi id hy y-in = follow-go (s .home y) d y i hi id hy y-in (omega arith)
+  follow d y i hi id hy y-in = go (s .home y) d id y-in (omega arith)
+    where
+      range : {d : ℕ} → Chain (r .parent) i d → d < r .c
+      range id = chain-range S C hi id
+
+      go : (m d : ℕ) → Chain (r .parent) i d → Domain s (r .block d) y → s .home y ≤ r .block d + m → Follows d y i
+      go zero d id y-in l = cases (way-of d y hy y-in) (λ e. follow-home d y i (range id) hy e id) (λ w. absurd (way-ends w (omega arith)))
+      go (suc m) d id y-in l = cases (way-of d y hy y-in) (λ e. follow-home d y i (range id) hy e id) λ w. cases (chain-child id)
+          (λ e. follow-fresh (range id) hy w id (λ q c z f b. omega (arith, e, chain-le (C .tree) c, C .tree .falls q z, f)))
+          (λ q.
+          let z : 0 < q .0 = child-pos (C .tree) (q .2) (q .3) in
+          cases (same-or (r .block (q .0)) (w .way-k))
+          (λ e. follow-down (range (q .1)) hy w (q .1) z (q .2) e
+          (go m (q .0) (q .1) (rw e (w .way-in)) (omega (arith, e, w .way-nearer))))
+          (λ g. follow-fresh (range id) hy w id (λ q′ c z′ f b. g (ap (r .block) (no-rung-twice (C .tree) (q .1) c z z′ (q .2 ∙ sym f)) ∙ b))))

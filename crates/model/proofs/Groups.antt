@@ -1,14 +1,15 @@
--- First, last and next in a group.
-use mathlib.Core.Path.{_≡_, refl, sym, ap, subst, _∙_}
-use mathlib.Core.Logic.{_≢_, _⊎_, inl, inr, ⊎-elim}
-use Prim.Native.Nat.{ℕ, zero, suc, _≤_, _<_, _+_}
+-- First, last and next in a group; and the lowest copy in a chain at which a loop turned, if there is one.
+use mathlib.Core.Path.{_≡_, refl, sym, _∙_}
+use mathlib.Core.Logic.{_⊎_, inl, inr}
+use Prim.Native.Nat.{ℕ, zero, suc, _≤_, _<_}
 use native.Mathlib.Omega.{arith}
 use Rattle.model.specs.Forests.{Chain, stop, up, Falls}
 use Rattle.model.specs.Specifications.{Spec}
 use Rattle.model.specs.Runs.{Run, Mate, Next, First, Last, Firsts, Lasts}
-use Rattle.model.proofs.Chains.{same-or, zero-or, less-or, cases, chain-le, chain-eq, chain-parent, chain-join, comparable}
+use Rattle.model.proofs.Cases.{cases, same-or, less-or, zero-or}
+use Rattle.model.proofs.Chains.{chain-le, chain-parent}
 
--- q is the lowest copy below d in the chain of i that is a loop's and not the first of its group
+-- q is the lowest copy below d in the chain of i that is a loop's and not the first of its group; p is the copy before it
 pub record Turn (s : Spec) (r : Run) (i d : ℕ) : Type 0 where
   pub q : ℕ
   pub p : ℕ
@@ -19,14 +20,19 @@ pub record Turn (s : Spec) (r : Run) (i d : ℕ) : Type 0 where
   pub turn-next : Next r p q
 
 module _ {r : Run} where
-  pub mate-self : {q : ℕ} → q < r .c → 0 < q → Mate r q q
+  mate-self : {q : ℕ} → q < r .c → 0 < q → Mate r q q
   mate-self h z = record { exists = h; not-zero = z; one-parent = refl; one-block = refl }
 
   pub mate-turn : {q j : ℕ} → q < r .c → 0 < q → Mate r q j → Mate r j q
   mate-turn h z m = record { exists = h; not-zero = z; one-parent = sym (m .one-parent); one-block = sym (m .one-block) }
 
   pub mate-join : {q j k : ℕ} → Mate r q j → Mate r j k → Mate r q k
-  mate-join a b = record { exists = b .exists; not-zero = b .not-zero; one-parent = b .one-parent ∙ a .one-parent; one-block = b .one-block ∙ a .one-block }
+  mate-join a b = record {
+    exists = b .exists;
+    not-zero = b .not-zero;
+    one-parent = b .one-parent ∙ a .one-parent;
+    one-block = b .one-block ∙ a .one-block;
+  }
 
   mate-or : (q j : ℕ) → j < r .c → Mate r q j ⊎ (¬ (Mate r q j))
   mate-or q j h =
@@ -36,6 +42,7 @@ module _ {r : Run} where
       (λ d. inr (λ m. d (m .one-block))))
       (λ d. inr (λ m. d (m .one-parent)))
 
+  -- a copy is the first of its group, or the next after one: look down from it
   pub first-or-next : (q : ℕ) → q < r .c → 0 < q → First r q ⊎ ((p : ℕ) × Next r p q)
   first-or-next q h z = go q (omega arith) (λ j m l. l)
     where
@@ -52,6 +59,7 @@ module _ {r : Run} where
           ))
           (λ g. go k (omega arith) (λ j m a. cases (same-or j k) (λ e. absurd (g (rw e at m))) (λ d. omega (arith, f j m a))))
 
+  -- the last copy of a group: look down from c
   pub last-of : (q : ℕ) → q < r .c → 0 < q → (e : ℕ) × Mate r q e × Last r e
   last-of q h z = go (r .c) (omega arith) (λ j m. m .exists)
     where

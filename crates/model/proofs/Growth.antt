@@ -1,17 +1,18 @@
--- A run that grew.
-use mathlib.Core.Path.{_≡_, refl, sym, ap, subst, _∙_}
-use mathlib.Core.Logic.{_≢_, _⊎_, _↔_, inl, inr}
+-- A run that grew: its copies come in the same order as their counterparts, so two labels compare as those of the counterparts do.
+use mathlib.Core.Path.{_≡_, sym, ap, subst, _∙_}
+use mathlib.Core.Logic.{_↔_, inl, inr}
 use mathlib.Core.Bool.{Bool, true, false}
-use Prim.Native.Nat.{ℕ, zero, suc, _≤_, _<_, _+_}
+use Prim.Native.Nat.{ℕ, _<_}
 use native.Mathlib.Omega.{arith}
 use Rattle.model.specs.Paths.{Path*}
 use Rattle.model.specs.Forests.{Chain, stop, up, Split}
 use Rattle.model.specs.Specifications.{Edge, Spec, Sealed}
 use Rattle.model.specs.Runs.{Run, Conforms}
-use Rattle.model.specs.Orders.{order1, order2, order3, Turned, Sooner, Branch, Before, Position}
+use Rattle.model.specs.Orders.{order1, order2, order3, Turned, Before, Position}
 use Rattle.model.specs.Labels.{Label, Labelled}
-use Rattle.model.specs.Laws.{Grown, Alike, As}
-use Rattle.model.proofs.Chains.{cases, chain-eq}
+use Rattle.model.specs.Laws.{Grown}
+use Rattle.model.proofs.Answering.{Alike, As}
+use Rattle.model.proofs.Cases.{cases}
 use Rattle.model.proofs.Copies.{chain-range, block-pos, pos-of-block}
 use Rattle.model.proofs.Orders.{branch, before-never, before-join, before-total, position-less, position-back}
 
@@ -62,15 +63,23 @@ module _ {s : Spec} {r r′ : Run} {f g : ℕ → ℕ} (S : Sealed s) (C : Confo
     before-here : {i j : ℕ} → i < r .c → j < r .c → Before s r′ o (f i) (f j) → Before s r o i j
     before-here {i} {j} hi hj b = cases (before-total s r o (C .tree) i j)
         (λ e. absurd (before-never s r′ o (C′ .tree) (f i) (subst (λ x. Before s r′ o (f i) (f x)) (sym e) b)))
-        (λ x. cases x (λ y. y) (λ y. absurd (before-never s r′ o (C′ .tree) (f i) (before-join s r′ o (C′ .tree) (f i) (f j) (f i) b (before-there hj hi y)))))
+        (λ x. cases x (λ y. y) λ y.
+        let round : Before s r′ o (f i) (f i) = before-join s r′ o (C′ .tree) (f i) (f j) (f i) b (before-there hj hi y) in
+        absurd (before-never s r′ o (C′ .tree) (f i) round))
 
-    half : {i j q p q′ p′ : ℕ} → i < r .c → j < r .c → Position s r o i q → Position s r o j p → Position s r′ o (f i) q′ → Position s r′ o (f j) p′ → (q < p) ↔ (q′ < p′)
+    half : {i j q p q′ p′ : ℕ} → i < r .c → j < r .c → Position s r o i q → Position s r o j p
+        → Position s r′ o (f i) q′ → Position s r′ o (f j) p′ → (q < p) ↔ (q′ < p′)
     half {i} {j} {q} {p} {q′} {p′} hi hj a b a′ b′ = (
-      (λ l. position-less s r′ o (C′ .tree) (f i) (f j) q′ p′ (G .copy-there i hi) a′ b′ (before-there hi hj (position-back s r o (C .tree) i j q p hi hj a b l))),
-      (λ l. position-less s r o (C .tree) i j q p hi a b (before-here hi hj (position-back s r′ o (C′ .tree) (f i) (f j) q′ p′ (G .copy-there i hi) (G .copy-there j hj) a′ b′ l))),
+      (λ l.
+          let x : Before s r o i j = position-back s r o (C .tree) i j q p hi hj a b l in
+          position-less s r′ o (C′ .tree) (f i) (f j) q′ p′ (G .copy-there i hi) a′ b′ (before-there hi hj x)),
+      (λ l.
+          let x : Before s r′ o (f i) (f j) = position-back s r′ o (C′ .tree) (f i) (f j) q′ p′ (G .copy-there i hi) (G .copy-there j hj) a′ b′ l in
+          position-less s r o (C .tree) i j q p hi a b (before-here hi hj x)),
     )
 
-    alike : {u w q p q′ p′ : ℕ} → u < r .v → w < r .v → Position s r o (r .context u) q → Position s r o (r .context w) p → Position s r′ o (r′ .context (g u)) q′ → Position s r′ o (r′ .context (g w)) p′ → Alike q p q′ p′
+    alike : {u w q p q′ p′ : ℕ} → u < r .v → w < r .v → Position s r o (r .context u) q → Position s r o (r .context w) p
+        → Position s r′ o (r′ .context (g u)) q′ → Position s r′ o (r′ .context (g w)) p′ → Alike q p q′ p′
     alike {u} {w} {q} {p} {q′} {p′} hu hw a b a′ b′ =
         let hi = C .context-range u hu in
         let hj = C .context-range w hw in
@@ -78,7 +87,8 @@ module _ {s : Spec} {r r′ : Run} {f g : ℕ → ℕ} (S : Sealed s) (C : Confo
         let b″ : Position s r′ o (f (r .context w)) p′ = subst (λ x. Position s r′ o x p′) (G .keeps-context w hw) b′ in
         (half hi hj a b a″ b″, half hj hi b a b″ a″)
 
-  pub grown : {u w : ℕ} → u < r .v → w < r .v → {A B A′ B′ : Label} → Labelled s r u A → Labelled s r w B → Labelled s r′ (g u) A′ → Labelled s r′ (g w) B′ → As A B A′ B′
+  pub grown : {u w : ℕ} → u < r .v → w < r .v → {A B A′ B′ : Label} → Labelled s r u A → Labelled s r w B
+      → Labelled s r′ (g u) A′ → Labelled s r′ (g w) B′ → As A B A′ B′
   grown {u} {w} hu hw a b a′ b′ = record {
     as1 = alike order1 hu hw (a .at1) (b .at1) (a′ .at1) (b′ .at1);
     as2 = alike order2 hu hw (a .at2) (b .at2) (a′ .at2) (b′ .at2);

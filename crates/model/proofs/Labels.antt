@@ -1,35 +1,31 @@
--- What the three positions tell.
+-- What labels tell: the three positions show how two contexts lie to one another, and so the question rule says yes exactly when a path
+-- of the run leads from one step to the other.
 use mathlib.Core.Path.{_≡_, refl, sym, ap, subst, _∙_}
-use mathlib.Core.Logic.{_≢_, _⊎_, inl, inr}
-use mathlib.Core.Bool.{Bool, true, false}
-use Prim.Native.Nat.{ℕ, zero, suc, _≤_, _<_, _+_}
+use mathlib.Core.Logic.{_≢_, inl, inr}
+use mathlib.Core.Bool.{Bool}
+use Prim.Native.Nat.{ℕ, _<_}
 use native.Mathlib.Omega.{arith}
-use Rattle.model.specs.Paths.{Path*, here, step}
-use Rattle.model.specs.Forests.{Chain, stop, up, Split}
+use Rattle.model.specs.Paths.{Path*, Path⁺, step}
+use Rattle.model.specs.Forests.{Chain, Split}
 use Rattle.model.specs.Specifications.{Spec, Edge, Sealed}
 use Rattle.model.specs.Runs.{Run, Conforms, Derived}
 use Rattle.model.specs.Relating.{Apart, Earlier, Rel}
-use Rattle.model.specs.Orders.{order1, order2, order3, Turned, Sooner, Branch, Before, Position}
-use Rattle.model.specs.Labels.{Label, Labelled, Other, Yes, by-equal, by-loop, by-reach}
-use Rattle.model.proofs.Chains.{same-or, less-or, cases, chain-join, no-rung-twice, split-flip, one-left, one-right}
-use Rattle.model.proofs.Copies.{chain-range, block-pos, copy-range, earlier, never-apart}
-use Rattle.model.proofs.Orders.{meet, branch, position-less, position-same, position-copy, position-one}
-use Rattle.model.specs.Paths.{Path⁺}
+use Rattle.model.specs.Orders.{order1, order2, order3, Turned, Before}
+use Rattle.model.specs.Labels.{Label, Labelled, Yes, by-equal, by-loop, by-reach}
 use Rattle.model.specs.Laws.{Listed}
+use Rattle.model.proofs.Cases.{cases, same-or, less-or}
+use Rattle.model.proofs.Chains.{split-self, split-left, split-right, split-flip, one-left, one-right}
+use Rattle.model.proofs.Copies.{chain-range, block-pos, copy-range, earlier-apart, never-apart}
+use Rattle.model.proofs.Orders.{meet, branch, position-less, position-same, position-copy, position-of, position-one}
 use Rattle.model.proofs.Paths.{path-map, path-last}
-use Rattle.model.proofs.Sound.{sound}
-use Rattle.model.proofs.Complete.{complete, no-run-cycle}
+use Rattle.model.proofs.Complete.{no-run-cycle, sound-listed, complete-listed}
 
-module _ {sp : Spec} {r : Run} (S : Sealed sp) (C : Conforms sp r) where
-  pub sound-listed : {u w : ℕ} → u < r .v → Path* (Listed r) u w → Rel sp r u w
-  sound-listed hu p = sound S C hu (path-map (λ a b e. C .exactly a b .0 e) p)
-
-  pub complete-listed : {u w : ℕ} → u < r .v → w < r .v → Rel sp r u w → Path* (Listed r) u w
-  complete-listed hu hw R = path-map (λ a b e. C .exactly a b .1 e) (complete S C hu hw R)
-
+-- the kind of a group, as the order has it
 turned-at : (o : ℕ → Bool) {k l : ℕ} (s t : ℕ) → k ≡ l → Turned (o l) s t → Turned (o k) s t
 turned-at o s t e h = subst (λ x. Turned (o x) s t) (sym e) h
 
+-- How two copies lie to one another: they are one; near, one under the other or under copies of different blocks, where all orders agree;
+-- in two copies of a fork, where order 2 turns them round; or in two turns of a loop, where order 3 does.
 data Pair (sp : Spec) (r : Run) (i j : ℕ) : Type 0 where
   one : i ≡ j → Pair sp r i j
   near-on : (¬ (Apart r i j)) → ((o : ℕ → Bool) → Before sp r o i j) → Pair sp r i j
@@ -41,10 +37,10 @@ data Pair (sp : Spec) (r : Run) (i j : ℕ) : Type 0 where
 
 module _ {sp : Spec} {r : Run} (S : Sealed sp) (C : Conforms sp r) where
   above-not-apart : {i j : ℕ} → Chain (r .parent) j i → ¬ (Apart r i j)
-  above-not-apart c A = A .differ (no-rung-twice (C .tree) (chain-join c (A .split .left)) (A .split .right) (A .split .left-pos) (A .split .right-pos) (A .split .same-parent))
+  above-not-apart c A = A .differ (split-self (C .tree) (split-left c (A .split)))
 
   below-not-apart : {i j : ℕ} → Chain (r .parent) i j → ¬ (Apart r i j)
-  below-not-apart c A = A .differ (no-rung-twice (C .tree) (A .split .left) (chain-join c (A .split .right)) (A .split .left-pos) (A .split .right-pos) (A .split .same-parent))
+  below-not-apart c A = A .differ (split-self (C .tree) (split-right c (A .split)))
 
   module _ {i j s t : ℕ} (hi : i < r .c) (x : Split (r .parent) i j s t) (d : s ≢ t) where
     same-es : (E : Earlier sp r i j) → E .es ≡ s
@@ -57,30 +53,41 @@ module _ {sp : Spec} {r : Run} (S : Sealed sp) (C : Conforms sp r) where
     apart-here e = record { s = s; t = t; split = x; same-block = e; differ = d }
 
     other-block : r .block s ≢ r .block t → ¬ (Apart r i j)
-    other-block g A = g (ap (r .block) (sym (one-left (C .tree) (A .split) (A .differ) x d)) ∙ A .same-block ∙ ap (r .block) (one-right (C .tree) (A .split) (A .differ) x d))
+    other-block g A =
+        let left : A .s ≡ s = one-left (C .tree) (A .split) (A .differ) x d in
+        let right : A .t ≡ t = one-right (C .tree) (A .split) (A .differ) x d in
+        g (ap (r .block) (sym left) ∙ A .same-block ∙ ap (r .block) right)
 
     back : Split (r .parent) j i t s
-    back = split-flip (C .tree) x
+    back = split-flip x
 
     forked : r .block s ≡ r .block t → sp .kind (r .block s) ≡ 1 → Pair sp r i j
     forked e k =
         let k′ : sp .kind (r .block t) ≡ 1 = ap (sp .kind) (sym e) ∙ k in
         let not : ¬ (Earlier sp r i j) = λ E. omega (arith, k, E .eloop, ap (λ y. sp .kind (r .block y)) (same-es E)) in
         cases (less-or s t)
-        (λ l. fork-on (apart-here e) not (branch sp r order1 x (inr (e, l))) (branch sp r order2 back (inr (sym e, turned-at order2 t s k′ l))))
+        (λ l. fork-on (apart-here e) not
+        (branch sp r order1 x (inr (e, l)))
+        (branch sp r order2 back (inr (sym e, turned-at order2 t s k′ l))))
         (λ l. let l′ : t < s = omega arith in
-        fork-back (apart-here e) not (branch sp r order1 back (inr (sym e, l′))) (branch sp r order2 x (inr (e, turned-at order2 s t k l′))))
+        fork-back (apart-here e) not
+        (branch sp r order1 back (inr (sym e, l′)))
+        (branch sp r order2 x (inr (e, turned-at order2 s t k l′))))
 
     looped : r .block s ≡ r .block t → sp .kind (r .block s) ≡ 2 → Pair sp r i j
     looped e k =
         let k′ : sp .kind (r .block t) ≡ 2 = ap (sp .kind) (sym e) ∙ k in
         cases (less-or s t)
-        (λ l. loop-on (earlier S C (x .left) (x .right) (x .left-pos) (x .same-parent) e l k)
-        (branch sp r order1 x (inr (e, l))) (branch sp r order2 x (inr (e, turned-at order2 s t k l))) (branch sp r order3 back (inr (sym e, turned-at order3 t s k′ l))))
+        (λ l. loop-on (record { es = s; et = t; esplit = x; eblock = e; eless = l; eloop = k })
+        (branch sp r order1 x (inr (e, l)))
+        (branch sp r order2 x (inr (e, turned-at order2 s t k l)))
+        (branch sp r order3 back (inr (sym e, turned-at order3 t s k′ l))))
         (λ l. let l′ : t < s = omega arith in
         let not : ¬ (Earlier sp r i j) = λ E. omega (arith, l′, E .eless, same-es E, same-et E) in
         loop-back (apart-here e) not
-        (branch sp r order1 back (inr (sym e, l′))) (branch sp r order2 back (inr (sym e, turned-at order2 t s k′ l′))) (branch sp r order3 x (inr (e, turned-at order3 s t k l′))))
+        (branch sp r order1 back (inr (sym e, l′)))
+        (branch sp r order2 back (inr (sym e, turned-at order2 t s k′ l′)))
+        (branch sp r order3 x (inr (e, turned-at order3 s t k l′))))
 
     split-pair : Pair sp r i j
     split-pair = cases (same-or (r .block s) (r .block t))
@@ -132,7 +139,7 @@ module _ {sp : Spec} {r : Run} (S : Sealed sp) (C : Conforms sp r) where
     more3 = position-less sp r order3 (C .tree) (r .context w) (r .context u) (B .q3) (A .q3) j-range (b .at3) (a .at3)
 
     near-path : (¬ (Apart r (r .context u) (r .context w))) → Rel sp r u w → Reach
-    near-path f (inl E) = absurd (f (record { s = E .es; t = E .et; split = E .esplit; same-block = E .eblock; differ = λ e. omega (arith, e, E .eless) }))
+    near-path f (inl E) = absurd (f (earlier-apart E))
     near-path f (inr N) = reach-to (N .1)
 
     not-rel : Apart r (r .context u) (r .context w) → (¬ (Earlier sp r (r .context u) (r .context w))) → Rel sp r u w → ⊥
@@ -190,6 +197,14 @@ module _ {sp : Spec} {r : Run} (S : Sealed sp) (C : Conforms sp r) where
       (position-copy sp r order1 (C .tree) (r .context u) (r .context w) (A .q1) (C .context-range u hu) (C .context-range w hw) (a .at1) (b .at1))
       (sym (a .is-vertex) ∙ b .is-vertex)
 
+  -- the label that the positions of a step's context make
+  label-of : (u : ℕ) → u < r .v → (A : Label) × Labelled sp r u A
+  label-of u hu =
+      let place = λ (o : ℕ → Bool). position-of sp r o (C .tree) (r .context u) (C .context-range u hu) in (
+        record { q1 = place order1 .0; q2 = place order2 .0; q3 = place order3 .0; vertex = r .origin u },
+        record { at1 = place order1 .2; at2 = place order2 .2; at3 = place order3 .2; is-vertex = refl },
+      )
+
   same-label : {u : ℕ} {A B : Label} → Labelled sp r u A → Labelled sp r u B → A ≡ B
   same-label {u} {A} {B} a b =
       let e1 : A .q1 ≡ B .q1 = position-one sp r order1 (C .tree) (r .context u) (A .q1) (B .q1) (a .at1) (b .at1) in
@@ -197,6 +212,9 @@ module _ {sp : Spec} {r : Run} (S : Sealed sp) (C : Conforms sp r) where
       let e3 : A .q3 ≡ B .q3 = position-one sp r order3 (C .tree) (r .context u) (A .q3) (B .q3) (a .at3) (b .at3) in
       let e4 : A .vertex ≡ B .vertex = a .is-vertex ∙ sym (b .is-vertex) in
       λ i. record { q1 = e1 i; q2 = e2 i; q3 = e3 i; vertex = e4 i }
+
+  pub each-label : (u : ℕ) → u < r .v → (A : Label) × Labelled sp r u A × ((B : Label) → Labelled sp r u B → B ≡ A)
+  each-label u hu = let w = label-of u hu in (w .0, w .1, λ B b. same-label b (w .1))
 
   module _ {u w : ℕ} (hu : u < r .v) (hw : w < r .v) {A B : Label} (a : Labelled sp r u A) (b : Labelled sp r w B) where
     pub after-says : Path⁺ (Listed r) u w → (A ≢ B) × Yes A B (Path* (Edge sp) (A .vertex) (B .vertex))

@@ -1,12 +1,13 @@
--- Tests that compute, of bounded statements.
-use mathlib.Core.Path.{_≡_, refl, sym, ap, subst, _∙_}
-use mathlib.Core.Logic.{_≢_, _⊎_, _↔_, inl, inr}
+-- Tests that compute, for statements with bounds: how the worked example is checked.
+use mathlib.Core.Path.{_≡_, subst}
+use mathlib.Core.Logic.{_⊎_, inl, inr}
 use mathlib.Core.Bool.{Bool, true, false, _&&_, _||_, not}
-use Prim.Native.Nat.{ℕ, zero, suc, _≤_, _<_, _+_}
+use Prim.Native.Nat.{ℕ, zero, suc, _≤_, _<_}
 use native.Mathlib.Omega.{arith}
-use lib.Dec.{T, eqb, leb, ltb, leb→le, le→leb, eqb→eq, eqb-refl}
-use Rattle.model.specs.Forests.{Chain, stop, up, Falls}
-use Rattle.model.proofs.Chains.{same-or, cases, chain-le, chain-eq, chain-parent}
+use lib.Dec.{T, T-not, not-T, eqb, leb, leb→le, le→leb, eqb→eq, eqb-refl}
+use Rattle.model.specs.Forests.{Chain, up, Falls}
+use Rattle.model.proofs.Cases.{cases, same-or}
+use Rattle.model.proofs.Chains.{chain-le, chain-eq, chain-parent}
 
 pub eq→eqb : (a b : ℕ) → a ≡ b → T (eqb a b)
 eq→eqb a b e = subst (λ x. T (eqb a x)) e (eqb-refl a)
@@ -36,14 +37,6 @@ pub or-thus : (a b : Bool) → T a ⊎ T b → T (a || b)
 or-thus true b h = tt
 or-thus false b (inl h) = elim h [ ]
 or-thus false b (inr h) = h
-
-pub not-so : (a : Bool) → T (not a) → T a → ⊥
-not-so true h k = h
-not-so false h k = k
-
-pub not-thus : (a : Bool) → (T a → ⊥) → T (not a)
-not-thus true h = h tt
-not-thus false h = tt
 
 pub bool-or : (a : Bool) → T a ⊎ (T a → ⊥)
 bool-or true = inl tt
@@ -76,13 +69,13 @@ test-or p q = record {
 }
 
 abbrev pub test-not : {P : Type 0} → Test P → Test (¬ P)
-test-not p = record { bit = not (p .bit); so = λ h x. not-so (p .bit) h (p .thus x); thus = λ h. not-thus (p .bit) (λ x. h (p .so x)) }
+test-not p = record { bit = not (p .bit); so = λ h x. T-not (p .bit) h (p .thus x); thus = λ h. not-T (p .bit) (λ x. h (p .so x)) }
 
 abbrev pub test-imp : {P Q : Type 0} → Test P → Test Q → Test (P → Q)
 test-imp p q = record {
   bit = not (p .bit) || q .bit;
-  so = λ h x. cases (or-so (not (p .bit)) (q .bit) h) (λ y. absurd (not-so (p .bit) y (p .thus x))) (q .so);
-  thus = λ h. or-thus (not (p .bit)) (q .bit) (cases (bool-or (p .bit)) (λ x. inr (q .thus (h (p .so x)))) (λ x. inl (not-thus (p .bit) x)));
+  so = λ h x. cases (or-so (not (p .bit)) (q .bit) h) (λ y. absurd (T-not (p .bit) y (p .thus x))) (q .so);
+  thus = λ h. or-thus (not (p .bit)) (q .bit) (cases (bool-or (p .bit)) (λ x. inr (q .thus (h (p .so x)))) (λ x. inl (not-T (p .bit) x)));
 }
 
 abbrev pub test-as : {P Q : Type 0} → (P → Q) → (Q → P) → Test P → Test Q
@@ -114,7 +107,11 @@ any-thus zero f x l h = absurd (omega arith)
 any-thus (suc n) f x l h = or-thus (f n) (any n f) (cases (same-or x n) (λ e. inl (rw (← e) h)) (λ d. inr (any-thus n f x (omega arith) h)))
 
 abbrev pub test-all : (n : ℕ) {P : ℕ → Type 0} → ((x : ℕ) → Test (P x)) → Test ((x : ℕ) → x < n → P x)
-test-all n t = record { bit = all n (λ x. t x .bit); so = λ h x l. t x .so (all-so n (λ x. t x .bit) h x l); thus = λ h. all-thus n (λ x. t x .bit) (λ x l. t x .thus (h x l)) }
+test-all n t = record {
+  bit = all n (λ x. t x .bit);
+  so = λ h x l. t x .so (all-so n (λ x. t x .bit) h x l);
+  thus = λ h. all-thus n (λ x. t x .bit) (λ x l. t x .thus (h x l));
+}
 
 abbrev pub test-any : (n : ℕ) {P : ℕ → Type 0} → ((x : ℕ) → Test (P x)) → Test ((x : ℕ) × (x < n) × P x)
 test-any n t = record {
@@ -123,7 +120,7 @@ test-any n t = record {
   thus = λ h. any-thus n (λ x. t x .bit) (h .0) (h .1) (t (h .0) .thus (h .2));
 }
 
--- fuel k from i
+-- a walk of at most k parents from i meets j
 abbrev pub chainb : (ℕ → ℕ) → ℕ → ℕ → ℕ → Bool
 chainb p zero i j = eqb i j
 chainb p (suc k) i j = eqb i j || chainb p k (p i) j
@@ -135,7 +132,8 @@ module _ {p : ℕ → ℕ} (f : Falls p) where
 
   pub chainb-thus : (k i j : ℕ) → i ≤ k → Chain p i j → T (chainb p k i j)
   chainb-thus zero i j l c = eq→eqb i j (omega (arith, chain-le f c))
-  chainb-thus (suc k) i j l c = or-thus (eqb i j) (chainb p k (p i) j) (cases (chain-parent c) (λ e. inl (eq→eqb i j e)) (λ d. inr (chainb-thus k (p i) j (fall i l) d)))
+  chainb-thus (suc k) i j l c = or-thus (eqb i j) (chainb p k (p i) j)
+      (cases (chain-parent c) (λ e. inl (eq→eqb i j e)) (λ d. inr (chainb-thus k (p i) j (fall i l) d)))
     where
       fall : (i : ℕ) → i ≤ suc k → p i ≤ k
       fall zero l = omega (arith, f .zero-parent)

@@ -1,9 +1,13 @@
 -- Why a specification is not sealed.
+use mathlib.Core.List.{List}
 use mathlib.Core.Path.{_≡_}
 use Prim.Native.Nat.{ℕ, _<_}
 use Rattle.model.specs.Paths.{Path⁺}
 use Rattle.model.specs.Specifications.{Spec, Edge, Acyclic, Whole-ends, Loop-rule, Fork-rule, Same-domain, Distinct}
+use Rattle.formats.specs.Of.{spec-of}
 use Rattle.formats.specs.Sections.{Lowest}
+use Rattle.formats.specs.SpecFiles.{Accepted, Refused, States}
+use Rattle.formats.specs.declared.specification.Specification.{Specification}
 use Rattle.formats.specs.declared.faults.Fault.{Fault}
 
 -- a path of one or more edges leads from the vertex back to it
@@ -31,3 +35,8 @@ pub data Unsealed (s : Spec) : Fault → Type 0 where
   breaks-loop : {k : ℕ} → Acyclic s → Whole-ends s → 0 < k → k < s .b → Passed-below s k → s .kind k ≡ 2 → (¬ (Loop-rule s k)) → Unsealed s (record { layer = 2; number = 8; place = k })
   breaks-fork : {k : ℕ} → Acyclic s → Whole-ends s → 0 < k → k < s .b → Passed-below s k → s .kind k ≡ 1 → (¬ (Fork-rule s k)) → Unsealed s (record { layer = 2; number = 9; place = k })
   same-domain : {k : ℕ} → Acyclic s → Whole-ends s → 0 < k → k < s .b → Passed-below s k → Keeps-rule s k → (¬ (Distinct s k)) → Unsealed s (record { layer = 2; number = 10; place = k })
+
+-- Why a file is not sealed: it is not read, and the place of the specification is as before; or it states one that is not sealed.
+pub data Not-sealed (bytes : List ℕ) (before after : Specification) (f : Fault) : Type 0 where
+  not-read : Refused bytes f → after ≡ before → Not-sealed bytes before after f
+  read-only : Accepted bytes → States bytes after → Unsealed (spec-of after) f → Not-sealed bytes before after f

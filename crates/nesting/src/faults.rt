@@ -1,7 +1,6 @@
 ghost use mathlib.Core.Path.{_≡_};
 ghost use Rattle.nesting.specs.Faults.{nesting-fault};
 ghost use Rattle.nesting.specs.declared.faults.NestingFault.the-variants.{Reading};
-
 use formats::faults::Fault;
 use formats::faults::ReadingFault;
 
@@ -35,11 +34,31 @@ impl NestingFault {
     {
         match self {
             NestingFault::Reading(fault) => fault.fault(),
-            NestingFault::Cycle { vertex } => Fault { layer: 2, number: 6, place: vertex },
-            NestingFault::WholeEnds => Fault { layer: 2, number: 7, place: 0 },
-            NestingFault::LoopRule { block } => Fault { layer: 2, number: 8, place: block },
-            NestingFault::ForkRule { block } => Fault { layer: 2, number: 9, place: block },
-            NestingFault::EqualDomains { block } => Fault { layer: 2, number: 10, place: block },
+            NestingFault::Cycle { vertex } => Fault {
+                layer: 2,
+                number: 6,
+                place: vertex,
+            },
+            NestingFault::WholeEnds => Fault {
+                layer: 2,
+                number: 7,
+                place: 0,
+            },
+            NestingFault::LoopRule { block } => Fault {
+                layer: 2,
+                number: 8,
+                place: block,
+            },
+            NestingFault::ForkRule { block } => Fault {
+                layer: 2,
+                number: 9,
+                place: block,
+            },
+            NestingFault::EqualDomains { block } => Fault {
+                layer: 2,
+                number: 10,
+                place: block,
+            },
         }
     }
 }

@@ -1,11 +1,10 @@
 ghost use Rattle.model.specs.Specifications.{Sealed};
 ghost use Rattle.formats.specs.Of.{spec-of};
-
 use formats::specification::Specification;
 
 /// A sealed specification. Only sealing makes one, and `new`, the trivial one; it cannot be copied.
 #[derive(Drop)]
 pub struct SealedSpecification {
     pub(crate) specification: Specification,
-    ghost is_sealed: { ∥ Sealed (spec-of specification) ∥₁ },
+    ghost sealed: { ∥ Sealed (spec-of specification) ∥₁ },
 }

@@ -1,7 +1,3 @@
-use mathlib.Core.Path.{_≡_}
-use mathlib.Core.Logic.{_↔_}
-use Rattle.model.specs.Paths.{Path*}
-use Rattle.model.specs.Specifications.{Edge}
 use Rattle.model.proofs.growth_law_stands.Needs as need
 use Rattle.model.proofs.Growth.{grown, same-reach}
 use Rattle.model.proofs.Answering.{answers-alike}

@@ -1,6 +1,3 @@
-use native.Mathlib.Omega.{arith}
-use Prim.Native.Nat.{_≤_}
-use lib.ListN.{length}
 use Rattle.formats.specs.SpecFiles.{too-short}
 use Rattle.formats.proofs.Refusals.{size-n, size-m, size-b, wrong-length}
 use Rattle.formats.proofs.reading.sizes.Needs as need

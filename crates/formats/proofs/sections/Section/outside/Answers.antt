@@ -1,13 +1,18 @@
+use borrow.Author.Count.{below-more}
+use native.Mathlib.Omega.{arith}
 use denote.Ref.{now}
-use Rattle.formats.proofs.Ranges.{lowest-first, section-done}
+use Rattle.formats.proofs.Ranges.{lowest-number, all-inside}
 use Rattle.formats.proofs.sections.Section.outside.Needs as need
 
-pub returns-in-Some : need.returns-in-Some
-returns-in-Some g c =
-    let s = c .args .self .now in
-    lowest-first (g .R·Record .kind) (c .args .bounds) (now (s .bytes)) (s .base) (s .count) (c .in-Some .at) (c .in-Some .ensures tt)
+pub loop-k-again : need.loop-k-again
+loop-k-again g c = below-more _ _ (c .loop-k .inv) (c .if-not-fits .ensures tt .0 tt)
 
-pub returns-in-None : need.returns-in-None
-returns-in-None g c =
-    let s = c .args .self .now in
-    section-done (g .R·Record .kind) (c .args .bounds) (now (s .bytes)) (s .base) (s .count) (c .second-outside .result) (c .in-None .ensures tt) (c .second-outside .ensures)
+pub returns-then-not-fits : need.returns-then-not-fits
+returns-then-not-fits g c =
+    let s = c .args .self in
+    lowest-number (g .R·Record .kind) (c .args .bounds) (now (s .bytes)) (s .base) (s .count) (c .loop-k .k) (omega arith) (c .if-not-fits .ensures tt .1) (c .loop-k .inv)
+
+pub returns : need.returns
+returns g c =
+    let s = c .args .self in
+    all-inside (g .R·Record .kind) (c .args .bounds) (now (s .bytes)) (s .base) (s .count) (λ j h. c .loop-k .inv j (omega arith))

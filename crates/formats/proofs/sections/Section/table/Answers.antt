@@ -1,15 +1,12 @@
-use borrow.Author.Needs.{needs}
-use mathlib.Core.Bool.{true}
-use mathlib.Core.Path.{_≡_, _∙_}
 use native.Mathlib.Omega.{arith}
 use denote.Ref.{now}
-use Rattle.std.proofs.shelf.Counted.{map-counting-more}
-use Rattle.std.proofs.shelf.Tests.{lt-ltb}
 use Rattle.formats.specs.Sections.{stated}
+use Rattle.formats.specs.Tables.{kept}
+use Rattle.formats.proofs.Rows.{row-more}
 use Rattle.formats.proofs.sections.Section.table.Needs as need
 
 pub loop-i-again : need.loop-i-again
 loop-i-again g c =
-    let t : c .push .result ≡ true = c .push .ensures .test ∙ lt-ltb _ _ (omega arith) in
-    let m = map-counting-more (stated (g .R·Record .made) (now (c .args .self .now .bytes)) (c .args .self .now .base) (c .args .self .now .count)) 0 (c .loop-i .i) (c .loop-i .i) (omega arith) in
-    search needs
+    let s = c .args .self in
+    let p = c .push .ensures in
+    row-more (stated (g .R·Record .made) (now (s .bytes)) (s .base) (s .count)) (c .loop-i .i) (g .N) {rows′ = kept (c .push .last .self)} (c .loop-i .inv .0) (c .loop-i .inv .1) (omega arith) (c .at .ensures) (p .test) (p .len) (p .items)
