@@ -1,19 +1,19 @@
 use crate::failure::Failure;
 use crate::failure::FailureOfAlloc;
 use crate::failure::FailureOfText;
+use crate::file::FileSizes;
 use crate::file::stated_sizes;
 use crate::refusal::refusal_line;
 use crate::tables::blocks_table;
 use crate::tables::edges_table;
 use crate::tables::vertices_table;
-use formats::reading::SpecSizes;
 use formats::specification::Specification;
 use nesting::faults::NestingFault;
 use std::alloc::Global;
 
 /// The sizes that stand in the file.
-fn sizes_lines(out: &mut String, sizes: SpecSizes) -> Result<(), Failure> {
-    let SpecSizes {
+fn sizes_lines(out: &mut String, sizes: FileSizes) -> Result<(), Failure> {
+    let FileSizes {
         vertices,
         edges,
         blocks,

@@ -4,8 +4,6 @@ ghost use lib.ListN.{length};
 ghost use Rattle.std.specs.Options.{Cases as BySome};
 ghost use Rattle.formats.specs.SpecFiles.{n-of, m-of, b-of};
 ghost use Rattle.formats.specs.Words.{word};
-use formats::reading::SpecSizes;
-
 /// The number at byte `at`, where the file has it.
 pub fn number_at(bytes: &[u8], at: usize) -> Option<u16>
     ensures { λ r. ⌜ BySome r (length (now (bytes .entry)) ≤ at + 1) (λ x. (at + 1 < length (now (bytes .entry))) × (x ≡ word (now (bytes .entry)) at)) ⌝ }
@@ -16,14 +14,22 @@ pub fn number_at(bytes: &[u8], at: usize) -> Option<u16>
     Some(bytes[at] as u16 + 256 * bytes[at + 1] as u16)
 }
 
+/// The three numbers that a specification file begins with.
+#[derive(Clone, Copy)]
+pub struct FileSizes {
+    pub vertices: u16,
+    pub edges: u16,
+    pub blocks: u16,
+}
+
 /// The sizes that the file begins with, whether or not they are within their limits.
-pub fn stated_sizes(bytes: &[u8]) -> Option<SpecSizes>
+pub fn stated_sizes(bytes: &[u8]) -> Option<FileSizes>
     ensures { λ r. ⌜ BySome r (length (now (bytes .entry)) < 6) (λ z. (6 ≤ length (now (bytes .entry))) × (z .vertices ≡ n-of (now (bytes .entry))) × (z .edges ≡ m-of (now (bytes .entry))) × (z .blocks ≡ b-of (now (bytes .entry)))) ⌝ }
 {
     if bytes.len() < 6 {
         return None;
     }
-    Some(SpecSizes {
+    Some(FileSizes {
         vertices: bytes[0] as u16 + 256 * bytes[1] as u16,
         edges: bytes[2] as u16 + 256 * bytes[3] as u16,
         blocks: bytes[4] as u16 + 256 * bytes[5] as u16,
@@ -73,8 +79,8 @@ pub struct Spot {
     pub record: usize,
 }
 
-fn stretches(sizes: SpecSizes) -> [Stretch; 8] {
-    let SpecSizes {
+fn stretches(sizes: FileSizes) -> [Stretch; 8] {
+    let FileSizes {
         vertices,
         edges,
         blocks,
@@ -116,7 +122,7 @@ fn stretches(sizes: SpecSizes) -> [Stretch; 8] {
 }
 
 /// Which number the byte `at` belongs to, in a file with these sizes.
-pub fn spot_of(sizes: SpecSizes, at: usize) -> Option<Spot> {
+pub fn spot_of(sizes: FileSizes, at: usize) -> Option<Spot> {
     let mut left = at.checked_sub(6)?;
     for Stretch { part, count } in stretches(sizes) {
         let taken = 2 * count as usize;

@@ -1,3 +1,4 @@
+use crate::file::FileSizes;
 use crate::file::Part;
 use crate::file::Spot;
 use crate::file::number_at;
@@ -10,7 +11,6 @@ use formats::kinds::SpecEdge;
 use formats::kinds::SpecEdgeRecord;
 use formats::kinds::Vertex;
 use formats::kinds::VertexRecord;
-use formats::reading::SpecSizes;
 use formats::records::Record;
 use std::alloc::AllocError;
 use std::alloc::Global;
@@ -76,7 +76,7 @@ fn length_words(heap: Global, needed: usize, length: usize) -> Result<String, Al
 }
 
 /// Where a number may lie, in words.
-fn allowed(heap: Global, at: Spot, sizes: SpecSizes) -> Result<String, AllocError> {
+fn allowed(heap: Global, at: Spot, sizes: FileSizes) -> Result<String, AllocError> {
     let vertices = sizes.vertices;
     let blocks = sizes.blocks;
     let record = at.record;
@@ -94,7 +94,7 @@ fn allowed(heap: Global, at: Spot, sizes: SpecSizes) -> Result<String, AllocErro
     }
 }
 
-fn spot_words(heap: Global, at: Spot, sizes: SpecSizes, found: u16) -> Result<String, AllocError> {
+fn spot_words(heap: Global, at: Spot, sizes: FileSizes, found: u16) -> Result<String, AllocError> {
     let name = at.part.name();
     let record = at.record;
     let wanted = allowed(heap, at, sizes)?;
@@ -119,7 +119,7 @@ fn edge_words(
     heap: Global,
     edge: usize,
     bytes: &[u8],
-    sizes: SpecSizes,
+    sizes: FileSizes,
 ) -> Result<String, AllocError> {
     let tail_at = edge.saturating_mul(2).saturating_add(6);
     let head_at = tail_at.saturating_add(2 * sizes.edges as usize);
