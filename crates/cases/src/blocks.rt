@@ -60,9 +60,7 @@ fn sealed_loops(suite: &mut Suite) -> Result<(), Failure> {
     )?;
     suite.case(
         "a loop in a loop",
-        five(heap, &[0, 1, 2, 1, 0])
-            .looped(0, 1, 3)
-            .looped(1, 2, 2),
+        five(heap, &[0, 1, 2, 1, 0]).looped(0, 1, 3).looped(1, 2, 2),
         Outcome::Sealed,
     )?;
     suite.case(
@@ -110,9 +108,7 @@ fn loop_ends(suite: &mut Suite) -> Result<(), Failure> {
     )?;
     suite.case(
         "an inner loop whose source lies in the outer one alone",
-        five(heap, &[0, 1, 2, 1, 0])
-            .looped(0, 1, 3)
-            .looped(1, 1, 2),
+        five(heap, &[0, 1, 2, 1, 0]).looped(0, 1, 3).looped(1, 1, 2),
         unsealed(8, 2),
     )
 }
@@ -242,14 +238,20 @@ fn fork_edges(suite: &mut Suite) -> Result<(), Failure> {
     let heap = suite.heap();
     suite.case(
         "an edge into a fork that does not start at its source",
-        skipping(heap, &[(0, 1), (0, 2), (1, 2), (2, 3), (3, 4)], &[0, 0, 1, 1, 0])
-            .fork(0, 1, 4),
+        skipping(
+            heap,
+            &[(0, 1), (0, 2), (1, 2), (2, 3), (3, 4)],
+            &[0, 0, 1, 1, 0],
+        ).fork(0, 1, 4),
         unsealed(9, 1),
     )?;
     suite.case(
         "an edge out of a fork that does not end at its sink",
-        skipping(heap, &[(0, 1), (1, 2), (2, 3), (2, 4), (3, 4)], &[0, 1, 1, 0, 0])
-            .fork(0, 0, 3),
+        skipping(
+            heap,
+            &[(0, 1), (1, 2), (2, 3), (2, 4), (3, 4)],
+            &[0, 1, 1, 0, 0],
+        ).fork(0, 0, 3),
         unsealed(9, 1),
     )?;
     suite.case(
@@ -287,22 +289,28 @@ fn fork_ends(suite: &mut Suite) -> Result<(), Failure> {
         unsealed(9, 2),
     )?;
     suite.case(
-        "two forks with no vertex between them",
+        "a fork whose sink lies in a fork beside it",
         four(heap, &[0, 1, 2, 0]).fork(0, 0, 2).fork(0, 1, 3),
         unsealed(9, 1),
     )?;
     suite.case(
-        "two forks with no vertex between them, the later one first",
+        "a fork whose source lies in a fork beside it",
         four(heap, &[0, 2, 1, 0]).fork(0, 1, 3).fork(0, 0, 2),
         unsealed(9, 1),
     )?;
     suite.case(
-        "a fork whose sink lies in a fork beside it, deeper inside",
-        five(heap, &[0, 1, 3, 2, 0])
-            .fork(0, 0, 2)
+        "a fork whose sink lies in a fork deeper inside",
+        five(heap, &[0, 1, 3, 2, 0]).fork(0, 0, 2)
             .looped(0, 2, 3)
             .fork(2, 1, 3),
         unsealed(9, 1),
+    )?;
+    suite.case(
+        "a loop, and then two forks with no vertex between them",
+        five(heap, &[0, 1, 2, 3, 0]).looped(0, 1, 1)
+            .fork(0, 1, 3)
+            .fork(0, 2, 4),
+        unsealed(9, 2),
     )
 }
 
@@ -310,9 +318,7 @@ fn domains(suite: &mut Suite) -> Result<(), Failure> {
     let heap = suite.heap();
     suite.case(
         "a loop in a loop with the same domain",
-        four(heap, &[0, 2, 2, 0])
-            .looped(0, 1, 2)
-            .looped(1, 1, 2),
+        four(heap, &[0, 2, 2, 0]).looped(0, 1, 2).looped(1, 1, 2),
         unsealed(10, 2),
     )?;
     suite.case(
@@ -327,15 +333,12 @@ fn domains(suite: &mut Suite) -> Result<(), Failure> {
     )?;
     suite.case(
         "a loop in a loop with one vertex less",
-        four(heap, &[0, 1, 2, 0])
-            .looped(0, 1, 2)
-            .looped(1, 2, 2),
+        four(heap, &[0, 1, 2, 0]).looped(0, 1, 2).looped(1, 2, 2),
         Outcome::Sealed,
     )?;
     suite.case(
         "three loops with one domain",
-        four(heap, &[0, 3, 3, 0])
-            .looped(0, 1, 2)
+        four(heap, &[0, 3, 3, 0]).looped(0, 1, 2)
             .looped(1, 1, 2)
             .looped(2, 1, 2),
         unsealed(10, 2),
@@ -346,16 +349,14 @@ fn first_block_first(suite: &mut Suite) -> Result<(), Failure> {
     let heap = suite.heap();
     suite.case(
         "number 10 at block 2 and number 8 at block 3",
-        five(heap, &[0, 2, 2, 3, 0])
-            .looped(0, 1, 2)
+        five(heap, &[0, 2, 2, 3, 0]).looped(0, 1, 2)
             .looped(1, 1, 2)
             .looped(0, 4, 3),
         unsealed(10, 2),
     )?;
     suite.case(
         "number 8 at block 2 and number 10 at block 4",
-        five(heap, &[0, 1, 2, 4, 0])
-            .looped(0, 1, 1)
+        five(heap, &[0, 1, 2, 4, 0]).looped(0, 1, 1)
             .looped(0, 2, 4)
             .looped(0, 3, 3)
             .looped(3, 3, 3),
@@ -373,9 +374,7 @@ fn first_block_first(suite: &mut Suite) -> Result<(), Failure> {
     )?;
     suite.case(
         "numbers 8 and 10 at one block",
-        four(heap, &[0, 2, 2, 0])
-            .looped(0, 1, 2)
-            .looped(1, 1, 3),
+        four(heap, &[0, 2, 2, 0]).looped(0, 1, 2).looped(1, 1, 3),
         unsealed(8, 2),
     )?;
     suite.case(

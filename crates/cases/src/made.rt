@@ -132,8 +132,12 @@ impl Draft {
     fn choose(&self, random: &mut Random) -> Part {
         let parent = random.below(self.blocks());
         let outer = self.part(parent);
-        let low = outer.low.saturating_add(random.below(outer.high.saturating_sub(outer.low).saturating_add(1)));
-        let high = low.saturating_add(random.below(outer.high.saturating_sub(low).saturating_add(1)));
+        let low = outer.low.saturating_add(random.below(
+            outer.high.saturating_sub(outer.low).saturating_add(1),
+        ));
+        let high = low.saturating_add(random.below(
+            outer.high.saturating_sub(low).saturating_add(1),
+        ));
         let mut part = Part {
             parent,
             kind: LOOP,
@@ -256,7 +260,10 @@ pub fn run(suite: &mut Suite) -> Result<(), Failure> {
         tally.add(expected.number());
         if got != expected {
             right = false;
-            let line = format!(heap, "made specification {i} expected {expected}, got {got}")?;
+            let line = format!(
+                heap,
+                "made specification {i} expected {expected}, got {got}"
+            )?;
             suite.missed(line.as_str())?;
         }
     }

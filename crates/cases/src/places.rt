@@ -70,15 +70,17 @@ fn keeps_both(heap: Global, spec: Builder) -> Result<bool, Failure> {
     Ok(first && !second && is_earlier(&places.read) && is_earlier(places.sealed.specification()))
 }
 
-/// Whether sealing refuses the file, a line of three vertices or more, and leaves its place as it was; the other holds what was read.
-fn keeps_sealed(heap: Global, spec: Builder) -> Result<bool, Failure> {
+/// Whether sealing refuses the file and leaves its place as it was, and the other place holds what was read: a file of these sizes.
+fn keeps_sealed(
+    heap: Global,
+    spec: Builder,
+    sizes: (usize, usize, usize),
+) -> Result<bool, Failure> {
     let mut places = Places::new();
     let first = places.take(heap, &earlier(heap))?;
     let second = places.take(heap, &spec)?;
-    Ok(first
-        && !second
-        && !is_earlier(&places.read)
-        && is_earlier(places.sealed.specification()))
+    let filled = is(&places.read, sizes, 2);
+    Ok(first && !second && filled && is_earlier(places.sealed.specification()))
 }
 
 fn after_reading(suite: &mut Suite) -> Result<(), Failure> {
@@ -97,26 +99,21 @@ fn after_reading(suite: &mut Suite) -> Result<(), Failure> {
 
 fn after_sealing(suite: &mut Suite) -> Result<(), Failure> {
     let heap = suite.heap();
-    let kept = keeps_sealed(heap, line(heap, 3).edge(2, 0))?;
-    suite.fact(
-        "after number 6 the sealed place is as it was, the other filled",
-        kept,
-    )?;
-    let kept = keeps_sealed(heap, line(heap, 3).vertex(0, 0))?;
-    suite.fact(
-        "after number 7 the sealed place is as it was, the other filled",
-        kept,
-    )?;
-    let kept = keeps_sealed(heap, line(heap, 3).looped(0, 1, 1))?;
-    suite.fact(
-        "after number 8 the sealed place is as it was, the other filled",
-        kept,
-    )?;
-    let kept = keeps_sealed(heap, line(heap, 3).fork(0, 0, 2))?;
-    suite.fact(
-        "after number 9 the sealed place is as it was, the other filled",
-        kept,
-    )
+    let kept = keeps_sealed(heap, line(heap, 3).edge(2, 0), (3, 3, 1))?;
+    suite.fact("after number 6 the sealed place is as it was", kept)?;
+    let kept = keeps_sealed(heap, line(heap, 3).vertex(0, 2), (4, 2, 1))?;
+    suite.fact("after number 7 the sealed place is as it was", kept)?;
+    let kept = keeps_sealed(heap, line(heap, 3).looped(0, 1, 1), (3, 2, 2))?;
+    suite.fact("after number 8 the sealed place is as it was", kept)?;
+    let kept = keeps_sealed(heap, line(heap, 3).fork(0, 0, 2), (3, 2, 2))?;
+    suite.fact("after number 9 the sealed place is as it was", kept)?;
+    let twice = Builder::new(heap)
+        .vertex(2, 2)
+        .whole(0, 0)
+        .looped(0, 0, 0)
+        .looped(1, 0, 0);
+    let kept = keeps_sealed(heap, twice, (1, 0, 3))?;
+    suite.fact("after number 10 the sealed place is as it was", kept)
 }
 
 fn after_none(suite: &mut Suite) -> Result<(), Failure> {
@@ -130,7 +127,10 @@ fn after_none(suite: &mut Suite) -> Result<(), Failure> {
     let second = places.take(heap, &line(heap, 3))?;
     let spec = places.sealed.specification();
     let held = is(&places.read, (3, 2, 1), 2) && is(spec, (3, 2, 1), 2);
-    suite.fact("the next sealed file fills both places anew", second && held)
+    suite.fact(
+        "the next sealed file fills both places anew",
+        second && held,
+    )
 }
 
 pub fn run(suite: &mut Suite) -> Result<(), Failure> {

@@ -68,10 +68,11 @@ impl Plain {
         };
         for i in 0..sizes.edges {
             let at = 6 + 2 * i as usize;
-            spec.edges.push(Edge {
-                tail: number_at(file, at),
-                head: number_at(file, at + 2 * m),
-            })?;
+            spec.edges
+                .push(Edge {
+                    tail: number_at(file, at),
+                    head: number_at(file, at + 2 * m),
+                })?;
         }
         for x in 0..sizes.vertices {
             let at = 6 + 4 * m + 2 * x as usize;
@@ -79,12 +80,13 @@ impl Plain {
         }
         for k in 0..sizes.blocks {
             let at = 6 + 4 * m + 4 * n + 2 * k as usize;
-            spec.blocks.push(Block {
-                parent: number_at(file, at),
-                kind: number_at(file, at + 2 * b),
-                source: number_at(file, at + 4 * b),
-                sink: number_at(file, at + 6 * b),
-            })?;
+            spec.blocks
+                .push(Block {
+                    parent: number_at(file, at),
+                    kind: number_at(file, at + 2 * b),
+                    source: number_at(file, at + 4 * b),
+                    sink: number_at(file, at + 6 * b),
+                })?;
         }
         Ok(spec)
     }
@@ -155,10 +157,15 @@ impl Plain {
             }
         }
         for _ in 0..self.vertices() {
+            let mut grew = false;
             for edge in self.edges.iter() {
-                if reached.has(edge.tail) {
+                if reached.has(edge.tail) && !reached.has(edge.head) {
                     reached.add(edge.head);
+                    grew = true;
                 }
+            }
+            if !grew {
+                break;
             }
         }
         Ok(reached.has(x))
