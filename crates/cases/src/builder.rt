@@ -91,19 +91,31 @@ impl Builder {
         }
     }
 
-    pub fn edge(mut self, tail: u16, head: u16) -> Self {
+    pub fn add_edge(&mut self, tail: u16, head: u16) {
         self.edges.add(tail, head);
+    }
+
+    pub fn add_vertex(&mut self, home: u16, tool: u16) {
+        self.vertices.add(home, tool);
+    }
+
+    pub fn add_block(&mut self, parent: u16, kind: u16, source: u16, sink: u16) {
+        self.nests.add(parent, kind);
+        self.ends.add(source, sink);
+    }
+
+    pub fn edge(mut self, tail: u16, head: u16) -> Self {
+        self.add_edge(tail, head);
         self
     }
 
     pub fn vertex(mut self, home: u16, tool: u16) -> Self {
-        self.vertices.add(home, tool);
+        self.add_vertex(home, tool);
         self
     }
 
     pub fn block(mut self, parent: u16, kind: u16, source: u16, sink: u16) -> Self {
-        self.nests.add(parent, kind);
-        self.ends.add(source, sink);
+        self.add_block(parent, kind, source, sink);
         self
     }
 
@@ -177,9 +189,9 @@ impl Builder {
 pub fn line(heap: Global, vertices: u16) -> Builder {
     let mut spec = Builder::new(heap);
     for x in 0..vertices {
-        spec = spec.vertex(0, x);
+        spec.add_vertex(0, x);
         if x > 0 {
-            spec = spec.edge(x - 1, x);
+            spec.add_edge(x - 1, x);
         }
     }
     spec.whole(0, vertices.saturating_sub(1))

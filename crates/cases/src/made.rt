@@ -48,6 +48,25 @@ impl Draft {
         Ok(draft)
     }
 
+    /// Levels, perhaps an edge more, and blocks.
+    fn random(heap: Global, random: &mut Random) -> Result<Draft, Failure> {
+        let mut draft = Draft::new(heap)?;
+        for _ in 0..random.below(5).saturating_add(2) {
+            let double = random.once_in(4);
+            draft.add_level(double)?;
+        }
+        let whole = draft.part(0);
+        draft.parts.push(whole)?;
+        if random.once_in(4) {
+            draft.add_edge(random)?;
+        }
+        draft.edges.sort();
+        for _ in 0..random.below(6) {
+            draft.add_block(random)?;
+        }
+        Ok(draft)
+    }
+
     fn vertices(&self) -> u16 {
         u16::try_from(self.homes.len()).unwrap_or(u16::MAX)
     }
@@ -188,33 +207,15 @@ impl Draft {
             .edges(self.edges.as_slice())
             .homes(self.homes.as_slice());
         for part in self.parts.iter() {
-            spec = spec.block(part.parent, part.kind, part.source, part.sink);
+            spec.add_block(part.parent, part.kind, part.source, part.sink);
         }
         spec
     }
 }
 
-fn draft(heap: Global, random: &mut Random) -> Result<Draft, Failure> {
-    let mut draft = Draft::new(heap)?;
-    for _ in 0..2 + random.below(5) {
-        let double = random.once_in(4);
-        draft.add_level(double)?;
-    }
-    let whole = draft.part(0);
-    draft.parts.push(whole)?;
-    if random.once_in(4) {
-        draft.add_edge(random)?;
-    }
-    draft.edges.sort();
-    for _ in 0..random.below(6) {
-        draft.add_block(random)?;
-    }
-    Ok(draft)
-}
-
 /// A file, and in one of three a wrong number in it.
 fn file(heap: Global, random: &mut Random) -> Result<Vec<u8>, Failure> {
-    let spec = draft(heap, random)?.builder(heap);
+    let spec = Draft::random(heap, random)?.builder(heap);
     let good = spec.bytes(heap)?;
     if !random.once_in(3) {
         return Ok(good);

@@ -4,6 +4,7 @@
 //! parents at 42 to 46, kinds at 48 to 52, sources at 54 to 58 and sinks at 60 to 64.
 
 use crate::builder::Builder;
+use crate::builder::LOOP;
 use crate::builder::import;
 use crate::builder::line;
 use crate::builder::trivial;
@@ -20,12 +21,12 @@ fn dense(heap: Global, wide: u16, loops: u16) -> Builder {
     for tail in 0..64u16 {
         let reach = if tail < wide { 9 } else { 8 };
         for head in tail + 1..64u16.min(tail + 1 + reach) {
-            spec = spec.edge(tail, head);
+            spec.add_edge(tail, head);
         }
         let home = if tail <= loops { tail } else { 0 };
-        spec = spec.vertex(home, 0);
+        spec.add_vertex(home, 0);
         if home > 0 {
-            spec = spec.looped(0, tail, tail);
+            spec.add_block(0, LOOP, tail, tail);
         }
     }
     spec
@@ -33,16 +34,14 @@ fn dense(heap: Global, wide: u16, loops: u16) -> Builder {
 
 /// A line of vertices in which each but the first and the last is a loop of its own.
 fn loops_in_line(heap: Global, loops: u16) -> Builder {
-    let mut spec = Builder::new(heap).vertex(0, 0);
-    for x in 1..loops.saturating_add(1) {
-        spec = spec.edge(x - 1, x).vertex(x, 0);
-    }
     let last = loops.saturating_add(1);
-    spec = spec.edge(loops, last).vertex(0, 0).whole(0, last);
+    let mut spec = Builder::new(heap).vertex(0, 0).whole(0, last);
     for x in 1..last {
-        spec = spec.looped(0, x, x);
+        spec.add_edge(x - 1, x);
+        spec.add_vertex(x, 0);
+        spec.add_block(0, LOOP, x, x);
     }
-    spec
+    spec.edge(loops, last).vertex(0, 0)
 }
 
 /// No block: vertices and edges as in a line of two.

@@ -42,7 +42,7 @@ fn examples(suite: &mut Suite) -> Result<(), Failure> {
 fn open(heap: Global, vertices: u16, edges: &[(u16, u16)]) -> Builder {
     let mut spec = Builder::new(heap).edges(edges);
     for _ in 0..vertices {
-        spec = spec.vertex(0, 0);
+        spec.add_vertex(0, 0);
     }
     spec
 }
