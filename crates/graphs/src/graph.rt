@@ -8,14 +8,14 @@ ghost use Rattle.graphs.specs.Rows.{Holds, vertices};
 use crate::row::Row;
 use crate::row::VERTICES;
 
-// A relation on the numbers below VERTICES: row x is the set of all y to which an edge leads from x.
+/// A relation on the numbers below VERTICES: row x is the set of all y to which an edge leads from x.
 #[derive(Clone, Copy)]
 pub struct Graph {
     rows: [Row; VERTICES],
 }
 
 impl Graph {
-    // The graph with no edge.
+    /// The graph with no edge.
     pub fn new() -> Self
         ensures { λ r. ⌜ ((x y : ℕ) → Joins r x y → ⊥) ⌝ }
     {
@@ -23,7 +23,7 @@ impl Graph {
         Graph { rows }
     }
 
-    // Adds the edge from x to y; where one of them is no vertex, nothing changes.
+    /// Adds the edge from x to y; where one of them is no vertex, nothing changes.
     pub fn add(&mut self, x: usize, y: usize)
         ensures { λ _. ⌜ ((a b : ℕ) → Joins (now (self .exit)) a b ↔ (Joins (now (self .entry)) a b ⊎ ((a ≡ x) × (b ≡ y) × (x < vertices) × (y < vertices)))) ⌝ }
     {
@@ -32,14 +32,14 @@ impl Graph {
         }
     }
 
-    // Whether an edge leads from x to y.
+    /// Whether an edge leads from x to y.
     pub fn has(&self, x: usize, y: usize) -> bool
         ensures { λ r. ⌜ T r ↔ Joins (now (self .entry)) x y ⌝ }
     {
         x < VERTICES && self.rows[x].has(y)
     }
 
-    // The graph becomes its closure: an edge from x to y wherever one or more edges led from x to y.
+    /// The graph becomes its closure: an edge from x to y wherever one or more edges led from x to y.
     pub fn close(&mut self)
         ensures { λ _. ⌜ ((x y : ℕ) → Joins (now (self .exit)) x y ↔ Path⁺ (Joins (now (self .entry))) x y) ⌝ }
     {
@@ -48,7 +48,7 @@ impl Graph {
         }
     }
 
-    // Adds an edge from x to y wherever one led from x to k, and one from k to y.
+    /// Adds an edge from x to y wherever one led from x to k, and one from k to y.
     fn join_through(&mut self, k: usize)
         requires { ⌜ k < vertices ⌝ }
         ensures { λ _. ⌜ ((x y : ℕ) → Joins (now (self .exit)) x y ↔ (Joins (now (self .entry)) x y ⊎ (Joins (now (self .entry)) x k × Joins (now (self .entry)) k y))) ⌝ }
@@ -60,7 +60,7 @@ impl Graph {
     }
 }
 
-// The row, joined with `via` where it holds k.
+/// The row, joined with `via` where it holds k.
 fn widened(row: Row, via: Row, k: usize) -> Row
     ensures { λ r. ⌜ ((y : ℕ) → Holds r y ↔ (Holds row y ⊎ (Holds row k × Holds via y))) ⌝ }
 {
