@@ -66,36 +66,3 @@ fn widened(row: Row, via: Row, k: usize) -> Row
 {
     if row.has(k) { row.joined(via) } else { row }
 }
-
-#[cfg(test)]
-mod tests {
-    use super::*;
-    use std::test::*;
-
-    #[test]
-    fn chain_closes() -> Result<(), Fail> {
-        let mut g = Graph::new();
-        for x in 0..63 {
-            g.add(x, x + 1);
-        }
-        check(!g.has(0, 63))?;
-        g.close();
-        check(g.has(0, 63))?;
-        check(g.has(62, 63))?;
-        check(!g.has(63, 0))?;
-        check(!g.has(5, 5))
-    }
-
-    #[test]
-    fn cycle_closes() -> Result<(), Fail> {
-        let mut g = Graph::new();
-        g.add(1, 9);
-        g.add(9, 4);
-        g.add(4, 1);
-        g.add(4, VERTICES);
-        g.close();
-        check(g.has(1, 1))?;
-        check(g.has(9, 1))?;
-        check(!g.has(4, VERTICES))
-    }
-}

@@ -51,19 +51,3 @@ impl Row {
         Row { words }
     }
 }
-
-#[cfg(test)]
-mod tests {
-    use super::*;
-    use std::test::*;
-
-    #[test]
-    fn width_ends() -> Result<(), Fail> {
-        let mut row = Row::empty();
-        row.insert(63);
-        row.insert(VERTICES);
-        check(row.has(63))?;
-        check(!row.has(62))?;
-        check(!row.has(VERTICES))
-    }
-}
