@@ -55,25 +55,25 @@ def own_names(files):
     return own - library
 
 
-def turn(text, names):
+def turn(text, names, made):
     def one(m):
         name = m.group(0)
         if name not in names:
             return name
-        # c.NAME is a place in a function's code, which Rattle names
-        if re.search(r'(?<![\w\'])c\.$', text[max(0, m.start() - 3):m.start()]):
+        # in an answer, c.NAME is a place in a function's code, which Rattle names
+        if made and re.search(r'(?<![\w\'])c\.$', text[max(0, m.start() - 3):m.start()]):
             return name
         return respelled(name)
     return re.sub(TOKEN, one, text)
 
 
-def turn_line(line, names, mark):
+def turn_line(line, names, mark, made):
     at = re.search(mark, line)
     cut = at.start() if at else len(line)
     code, comment = line[:cut], line[cut:]
     parts = re.split(r'("(?:[^"\\]|\\.)*")', code)
-    code = ''.join(p if i % 2 else turn(p, names) for i, p in enumerate(parts))
-    comment = re.sub(r'`([^`]*)`', lambda m: '`' + turn(m.group(1), names) + '`', comment)
+    code = ''.join(p if i % 2 else turn(p, names, made) for i, p in enumerate(parts))
+    comment = re.sub(r'`([^`]*)`', lambda m: '`' + turn(m.group(1), names, made) + '`', comment)
     return code + comment
 
 
@@ -84,7 +84,8 @@ def main():
     for file in antt + code:
         text = open(file).read()
         mark = r'//' if file.endswith('.rt') else r'(^|\s)--'
-        new = '\n'.join(turn_line(line, names, mark) for line in text.split('\n'))
+        made = file.endswith(('Answers.antt', 'Invariants.antt'))
+        new = '\n'.join(turn_line(line, names, mark, made) for line in text.split('\n'))
         if new != text:
             open(file, 'w').write(new)
     print(len(names), 'names')

@@ -24,8 +24,8 @@ module _ (sp : Spec) (r : Run) (o : ℕ → Bool) (tree : Falls r.parent) where
 
   abreast : {i : ℕ} {ks : List ℕ} → Children sp r o i ks → Rising Abreast ks
   abreast {i} {ks} c = places_rising ks λ q q' k k' a b h.
-      let x = c.only-children q k a in
-      let y = c.only-children q' k' b in
+      let x = c.only_children q k a in
+      let y = c.only_children q' k' b in
       record {
         left_above = x.not_whole;
         right_above = y.not_whole;
@@ -42,12 +42,12 @@ module _ (sp : Spec) (r : Run) (o : ℕ → Bool) (tree : Falls r.parent) where
   Copies is = (k : ℕ) → In k is → k < r.c
 
   children_copies : {i : ℕ} {ks : List ℕ} → Children sp r o i ks → Copies ks
-  children_copies c k h = let w = in_place h in (c.only-children w.0 k w.1).in_run
+  children_copies c k h = let w = in_place h in (c.only_children w.0 k w.1).in_run
 
   child_under : {i x : ℕ} {ks : List ℕ} → Children sp r o i ks → Under x ks → Chain r.parent x i × (i ≢ x)
   child_under {i} {x} {ks} c u =
       let w = in_place u.1 in
-      let d = c.only-children w.0 u.0 w.1 in (
+      let d = c.only_children w.0 u.0 w.1 in (
         chain_join u.2 (up (chain_eq d.directly)),
         λ e. omega (arith, e, chain_le tree u.2, tree.falls u.0 d.not_whole, d.directly),
       )
@@ -69,7 +69,7 @@ module _ (sp : Spec) (r : Run) (o : ℕ → Bool) (tree : Falls r.parent) where
       (λ e'. is_first_lem (e' ∙ e))
       (λ k.
       let z : 0 < k.0 = child_pos tree k.2 k.3 in
-      let w = c.all-children k.0 (record { in_run = omega (arith, chain_le tree k.1); not_whole = z; directly = k.2 ∙ e }) in
+      let w = c.all_children k.0 (record { in_run = omega (arith, chain_le tree k.1); not_whole = z; directly = k.2 ∙ e }) in
       later (in_left rest (under_laid b x h (k.0, place_in ks w.0 w.1, k.1)))))
       (λ y. later (in_right below (under_laid d x h (u.0, y, u.2))))
 
@@ -179,7 +179,7 @@ module _ (sp : Spec) (r : Run) (o : ℕ → Bool) (tree : Falls r.parent) where
 
   child_or : (i k : ℕ) → k < r.c → Child r i k ⊎ (¬ (Child r i k))
   child_or i k h = cases (zero_or k)
-      (λ z. inr (λ c. omega (arith, z, c.not-whole)))
+      (λ z. inr (λ c. omega (arith, z, c.not_whole)))
       (λ z. cases (same_or (r.parent k) i)
       (λ e. inl (record { in_run = h; not_whole = z; directly = e }))
       (λ d. inr (λ c. d c.directly)))
@@ -216,7 +216,7 @@ module _ (sp : Spec) (r : Run) (o : ℕ → Bool) (tree : Falls r.parent) where
         w.0,
         record {
           only_children = λ q k a. ((w.2 k).0 (place_in w.0 q a)).0;
-          all_children = λ k c. in_place ((w.2 k).1 (c, c.in-run));
+          all_children = λ k c. in_place ((w.2 k).1 (c, c.in_run));
           in_order = rising_places w.1;
         },
       )
