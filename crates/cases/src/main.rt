@@ -2,6 +2,7 @@
 //!
 //! A line of the table is `NAME | SPECIFICATION | OUTCOME`, or `NAME | SPECIFICATION | RUN | OUTCOME`; the files are given by their
 //! numbers, and `same` in the place of a specification is the one that was sealed last. A line without `|` is a heading.
+#![tactic(auto)]
 
 mod file;
 mod places;

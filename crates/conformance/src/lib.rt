@@ -1,4 +1,5 @@
 //! Layer 3, conformance: the steps and edges of a run, checked against a sealed specification.
+#![tactic(auto)]
 
 pub mod checking;
 mod derived;

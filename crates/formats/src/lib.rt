@@ -1,4 +1,5 @@
 //! Layer 1, reading: sections of records, what a specification file states, and run files read where they lie.
+#![tactic(auto)]
 
 pub mod contents;
 pub mod faults;

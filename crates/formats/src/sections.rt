@@ -1,4 +1,4 @@
-ghost use Rattle.std.specs.Prelude.{◌≡◌, ◌+◌, ◌*◌, ◌<◌, ◌≤◌, T, ◌↔◌, length, MatchOption, slice_index_or};
+ghost use Rattle.std.specs.Prelude.{◌≡◌, ◌+◌, ◌*◌, ◌<◌, ◌≤◌, T, ◌↔◌, length, MatchOption, slice_index_or, ⊤};
 ghost use Rattle.formats.specs.Words.{word};
 ghost use Rattle.records.specs.Kinds.{Fits};
 ghost use Rattle.formats.specs.Sections.{first_at, second_at, NumberWithin, Inside, Outside, Lowest, Ascends, Ascending, Unordered, stated, section};
@@ -6,6 +6,7 @@ ghost use Rattle.records.specs.Tables.{kept};
 
 use records::record::{Bounds, Record};
 use records::tables::Table;
+use std::alloc::AllocError;
 use std::marker::PhantomData;
 
 /// The number at byte `at`.
@@ -26,6 +27,16 @@ pub(crate) struct Section<'a, R> {
 }
 
 impl<'a, R> Copy for Section<'a, R> {}
+
+impl<'a, R> Clone for Section<'a, R> {
+    ghost is_clone = { λ a b. a ≡ b };
+
+    ghost is_infallible = { λ _. ⊤ };
+
+    fn clone(&self) -> Result<Self, AllocError> {
+        Ok(*self)
+    }
+}
 
 impl<'a, R> Section<'a, R> {
     /// The section of `count` records from byte `base` on.

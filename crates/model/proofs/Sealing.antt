@@ -44,7 +44,7 @@ module _ {s : Spec} (S : Sealed s) where
     to_sink {x} h i =
         let w = walk (λ a b. Edge s b a) (λ y. (y < s.n) × Domain s k y) (λ y. y ≡ s.sink k) s.n
         (λ a b p e. no_cycle S b a (path_turn {R = Edge s} p) e) (λ y a. a.0)
-        (λ y a. cases (same_or y (s.sink k)) inl (λ d. let e = L.SomeOut y a.0 a.1 d in
+        (λ y a. cases (same_or y (s.sink k)) inl (λ d. let e = L.some_out y a.0 a.1 d in
         inr (e.0, e.1, ((S.ranges.edge_range y e.0 e.1).1, L.all_out y e.0 a.1 d e.1))))
         x (h, i) in
         rw w.1 at (path_turn {R = Edge s} w.3)

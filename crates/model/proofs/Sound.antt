@@ -77,7 +77,7 @@ module _ {s : Spec} {r : Run} (S : Sealed s) (P : Placed s r) where
     earlier_back E B = inl (cases (comparable E.esplit.right B.back_u)
         (λ k. cases (chain_parent k)
         (λ e. meets e)
-        (λ k'. earlier_next nest P (over E.esplit.left E.esplit.same_parent k') B.back_w B.next B.is_Loop))
+        (λ k'. earlier_next nest P (over E.esplit.left E.esplit.same_parent k') B.back_w B.next B.is_loop))
         (λ k. cases (chain_parent k)
         (λ e. meets (sym e))
         (λ k'. earlier_as E E.esplit.left (over B.back_w B.next.mate.one_parent k'))))
@@ -111,12 +111,12 @@ module _ {s : Spec} {r : Run} (S : Sealed s) (P : Placed s r) where
         (λ x_in.
         let q = in_copy nest P hu x_in in
         cases (same_or_apart nest P (P.context_range u hu) (P.context_range v hv) q.1 B.back_u q.2)
-        (λ e. inl (earlier_next nest P (rw e at q.1) B.back_w B.next B.is_Loop))
+        (λ e. inl (earlier_next nest P (rw e at q.1) B.back_w B.next B.is_loop))
         (λ A. absurd (f A)))
         (λ x_out. inr (apart_not x_out, rw B.to_source (enters_at_source S L x_out p (copy_in nest P hv B.back_u))))
       where
         L : KeepsLoopRule s (r.block B.from)
-        L = loop_of (chain_range nest P (P.context_range v hv) B.back_u) (next_pos nest P B.next) B.is_Loop
+        L = loop_of (chain_range nest P (P.context_range v hv) B.back_u) (next_pos nest P B.next) B.is_loop
 
         within : (A : Apart r (r.context u) (r.context w)) → Chain r.parent A.t B.to → Domain s (r.block B.from) (r.origin u)
         within A k =

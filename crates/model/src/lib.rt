@@ -1,5 +1,6 @@
 //! What a specification, a run, a derived edge, an order, a label and the question rule are, in specs/, and the laws over them. There is no
 //! program code here: each function stands for a law, which is its contract.
+#![tactic(auto)]
 
 ghost use Rattle.model.specs.Laws.{PathLaw, OrderLaw, ListingLaw, OneLabelLaw, ApartLaw, LabelLaw, AfterLaw, RuleLaw, AnswerLaw, GrowthLaw};
 ghost use Rattle.model.specs.TwoRound.{ImportLaw};

@@ -1,4 +1,5 @@
 //! The records of which files are made: a trait for all of them, their seven kinds, and tables of limited size that hold them.
+#![tactic(auto)]
 
 pub mod kinds;
 pub mod record;

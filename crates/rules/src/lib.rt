@@ -1,4 +1,5 @@
 //! Layer 2, nesting: the rules that a specification keeps where it is sealed, and the faults of the layer.
+#![tactic(auto)]
 
 pub mod checking;
 mod cycles;

@@ -1,4 +1,5 @@
 //! Skeleton schemes: whether one vertex of a specification leads to another, the question that labels leave open.
+#![tactic(auto)]
 
 mod bounds;
 pub mod faults;

@@ -1,6 +1,7 @@
 //! `topuivahe check SPEC` reads a specification file, seals what it states, and prints an account of it;
 //! `topuivahe check SPEC RUN` checks the run in a second file against it, and prints an account of both;
 //! `topuivahe reach SPEC` tells which vertices lead to which.
+#![tactic(auto)]
 
 mod account;
 mod failure;

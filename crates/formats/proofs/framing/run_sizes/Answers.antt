@@ -11,5 +11,5 @@ returns-in-err-copies c =
 
 pub returns-then-bytes-needed : goal.returns-then-bytes-needed
 returns-then-bytes-needed c =
-    let h = c.in-ok-copies.ensures in
+    let h = c.in_ok-copies.ensures in
     λ n b. (by_length (run_format n b) h.0 h.1 (omega (arith, h.2, h.3, h.4)) c.if-bytes-needed.true).0

@@ -11,5 +11,5 @@ returns-in-err-vertices c =
 
 pub returns-then-bytes-needed : goal.returns-then-bytes-needed
 returns-then-bytes-needed c =
-    let h = c.in-ok-vertices.ensures in
+    let h = c.in_ok-vertices.ensures in
     by_length spec_format h.0 h.1 (omega (arith, h.2, h.3, h.4)) c.if-bytes-needed.true

@@ -11,7 +11,7 @@ pub returns-in-Some-outside : goal.returns-in-Some-outside
 returns-in-Some-outside c =
     let e = c.edges.ensures in
     let v = c.vertices.ensures in
-    lowest_vertices c.args.self.bytes.now (inside_as c.bounds-bounds.ensures e.0 e.1 e.2 c.in-default.ensures)
+    lowest_vertices c.args.self.bytes.now (inside_as c.bounds-bounds.ensures e.0 e.1 e.2 c.in_default.ensures)
     (lowest_as c.bounds-bounds.ensures v.0 v.1 v.2 c.in-Some-outside.ensures)
 
 pub returns-in-Some-outside-2 : goal.returns-in-Some-outside-2
@@ -19,8 +19,8 @@ returns-in-Some-outside-2 c =
     let e = c.edges.ensures in
     let v = c.vertices.ensures in
     let n = c.nests.ensures in
-    lowest_nests c.args.self.bytes.now (inside_as c.bounds-bounds.ensures e.0 e.1 e.2 c.in-default.ensures)
-    (inside_as c.bounds-bounds.ensures v.0 v.1 v.2 c.in-default-outside.ensures)
+    lowest_nests c.args.self.bytes.now (inside_as c.bounds-bounds.ensures e.0 e.1 e.2 c.in_default.ensures)
+    (inside_as c.bounds-bounds.ensures v.0 v.1 v.2 c.in_default-outside.ensures)
     (lowest_as c.bounds-bounds.ensures n.0 n.1 n.2 c.in-Some-outside-2.ensures)
 
 pub returns : goal.returns
@@ -29,7 +29,7 @@ returns c =
     let v = c.vertices.ensures in
     let n = c.nests.ensures in
     let x = c.ends.ensures in
-    file_done c.args.self.bytes.now c.outside-4.result (inside_as c.bounds-bounds.ensures e.0 e.1 e.2 c.in-default.ensures)
-    (inside_as c.bounds-bounds.ensures v.0 v.1 v.2 c.in-default-outside.ensures)
-    (inside_as c.bounds-bounds.ensures n.0 n.1 n.2 c.in-default-outside-2.ensures)
+    file_done c.args.self.bytes.now c.outside-4.result (inside_as c.bounds-bounds.ensures e.0 e.1 e.2 c.in_default.ensures)
+    (inside_as c.bounds-bounds.ensures v.0 v.1 v.2 c.in_default-outside.ensures)
+    (inside_as c.bounds-bounds.ensures n.0 n.1 n.2 c.in_default-outside-2.ensures)
     (found_as ends_kind c.bounds-bounds.ensures x.0 x.1 x.2 c.outside-4.result c.outside-4.ensures)

@@ -10,7 +10,7 @@ loop-k-init c = closing_none (Joins c.args.self.now)
 
 pub loop-k-preserved : goal.loop-k-preserved
 loop-k-preserved c =
-    closing_more (Joins c.args.self.now) (Joins c.loop-k.self) (Joins c.join-through.new.self) c.loop-k.k c.loop-k.invariant c.join-through.ensures
+    closing_more (Joins c.args.self.now) (Joins c.loop-k.self) (Joins c.join_through.new.self) c.loop-k.k c.loop-k.invariant c.join_through.ensures
 
 pub returns : goal.returns
 returns c =
