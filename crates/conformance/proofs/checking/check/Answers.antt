@@ -21,13 +21,13 @@ overflow-cast-blocks c =
     let l : length c.nests.result.now ≡ (spec_of s).b = ap length c.nests.ensures in
     omega (arith, blocks_few s)
 
-pub returns-in-err-open : goal.returns-in-err-open
-returns-in-err-open c =
+pub returns-in_err-open : goal.returns-in_err-open
+returns-in_err-open c =
     let s = sealed_spec_of c.args.specification.now in
     let bytes = c.args.bytes.now in
     let n : length c.vertices.result.now ≡ s.n = ap length c.vertices.ensures ∙ ap (λ (t : Specification). length (kept t.vertices)) c.specification-specification.ensures in
     let b : length c.nests.result.now ≡ s.b = ap length c.nests.ensures ∙ ap (λ (t : Specification). length (kept t.nests)) c.specification-specification.ensures in
-    let e = c.in-err-open.ensures in
+    let e = c.in_err-open.ensures in
     let p = err_from_is_err_and c.from-residual.result c.from-residual.ensures.1 in
     record { verdict = rw (p.1, p.2) (not_opened (refused_as s bytes n b e.0)); place = place_left s bytes n b e.0 e.1 }
 
@@ -37,8 +37,8 @@ returns c =
     let bytes = c.args.bytes.now in
     let n : length c.vertices.result.now ≡ s.n = ap length c.vertices.ensures ∙ ap (λ (t : Specification). length (kept t.vertices)) c.specification-specification.ensures in
     let b : length c.nests.result.now ≡ s.b = ap length c.nests.ensures ∙ ap (λ (t : Specification). length (kept t.nests)) c.specification-specification.ensures in
-    let e = c.in-ok-open.ensures in
+    let e = c.in_ok-open.ensures in
     record {
-      verdict = verdict_as c.check-all.result (ap spec_of c.specification-specification.ensures) e.1 (accepted_as s bytes n b e.0) c.check-all.ensures;
+      verdict = verdict_as c.check_all.result (ap spec_of c.specification-specification.ensures) e.1 (accepted_as s bytes n b e.0) c.check_all.ensures;
       place = place_held s bytes n b c.args.place.now c.open.new.place e.0 e.1 e.2 e.3;
     }

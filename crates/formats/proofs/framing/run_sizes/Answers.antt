@@ -4,10 +4,10 @@ use Rattle.formats.specs.RunFiles.{run_format}
 use Rattle.formats.proofs.Refusals.{by_head, by_length}
 use Rattle.formats.proofs.framing.run_sizes.Goals as goal
 
-pub returns-in-err-copies : goal.returns-in-err-copies
-returns-in-err-copies c =
+pub returns-in_err-copies : goal.returns-in_err-copies
+returns-in_err-copies c =
     let p = err_from_is_err_and c.from-residual.result c.from-residual.ensures.1 in
-    rw (p.1, p.2) (λ n b. (by_head (run_format n b) c.in-err-copies.field-0.0 c.in-err-copies.ensures).0)
+    rw (p.1, p.2) (λ n b. (by_head (run_format n b) c.in_err-copies.field-0.0 c.in_err-copies.ensures).0)
 
 pub returns-then-bytes-needed : goal.returns-then-bytes-needed
 returns-then-bytes-needed c =

@@ -4,10 +4,10 @@ use Rattle.formats.specs.SpecFiles.{spec_format}
 use Rattle.formats.proofs.Refusals.{by_head, by_length}
 use Rattle.formats.proofs.reading.sizes.Goals as goal
 
-pub returns-in-err-vertices : goal.returns-in-err-vertices
-returns-in-err-vertices c =
+pub returns-in_err-vertices : goal.returns-in_err-vertices
+returns-in_err-vertices c =
     let p = err_from_is_err_and c.from-residual.result c.from-residual.ensures.1 in
-    rw (p.1, p.2) (by_head spec_format c.in-err-vertices.field-0.0 c.in-err-vertices.ensures)
+    rw (p.1, p.2) (by_head spec_format c.in_err-vertices.field-0.0 c.in_err-vertices.ensures)
 
 pub returns-then-bytes-needed : goal.returns-then-bytes-needed
 returns-then-bytes-needed c =

@@ -5,4 +5,4 @@ pub returns-in-Some : goal.returns-in-Some
 returns-in-Some c = under_wrong c.in-Some.ensures
 
 pub returns-in-Some-lacking : goal.returns-in-Some-lacking
-returns-in-Some-lacking c = lacks_one c.in-default.ensures c.in-Some-lacking.ensures
+returns-in-Some-lacking c = lacks_one c.in_default.ensures c.in-Some-lacking.ensures

@@ -13,13 +13,13 @@ falls s = falls_of (kept s.nests) s.rooted s.nested
 pub loop-at-smaller : goal.loop-at-smaller
 loop-at-smaller c =
     let f = falls c.args.specification.now in
-    omega (arith, c.parent-of-at.ensures, f.falls c.loop-at.at (omega arith))
+    omega (arith, c.parent_of-at.ensures, f.falls c.loop-at.at (omega arith))
 
 pub loop-at-preserved : goal.loop-at-preserved
 loop-at-preserved c =
     let s = spec_of c.args.specification.now in
     let Q : ℕ → Type 0 = λ v. Chain s.above (s.home c.args.vertex) c.args.block ↔ Chain s.above v c.args.block in
-    subst Q (sym c.parent-of-at.ensures) (walk_on c.loop-at-test.true c.loop-at.invariant)
+    subst Q (sym c.parent_of-at.ensures) (walk_on c.loop-at-test.true c.loop-at.invariant)
 
 pub returns : goal.returns
 returns c = walk_ends (falls c.args.specification.now) c.loop-at-test.false c.loop-at.invariant

@@ -9,7 +9,7 @@ loop-vertex-init c = gathered_none c.new-found.ensures.items
 
 pub loop-vertex-preserved : goal.loop-vertex-preserved
 loop-vertex-preserved c = elim c.if-means.branch [
-  | then-means+in-ok-push w ↦ gathered_more c.loop-vertex.invariant (w.if-means.ensures.0 tt) (ap vec_items w.found-is ∙ w.in-ok-push.ensures.items)
+  | then-means+in_ok-push w ↦ gathered_more c.loop-vertex.invariant (w.if-means.ensures.0 tt) (ap vec_items w.found-is ∙ w.in_ok-push.ensures.items)
   | else-means w ↦ gathered_same c.loop-vertex.invariant (λ p. w.if-means.ensures.1 p) (ap vec_items w.found-is)
 ]
 

@@ -6,10 +6,10 @@ pub returns-in-Some : goal.returns-in-Some
 returns-in-Some c = astray c.requires.1.0 c.requires.1.1 c.in-Some.ensures
 
 pub returns-in-Some-repeated : goal.returns-in-Some-repeated
-returns-in-Some-repeated c = repeated c.requires.1.0 c.requires.1.1 c.in-default.ensures c.in-Some-repeated.ensures
+returns-in-Some-repeated c = repeated c.requires.1.0 c.requires.1.1 c.in_default.ensures c.in-Some-repeated.ensures
 
-pub returns-in-Some-short-of : goal.returns-in-Some-short-of
-returns-in-Some-short-of c = short_of_lem c.requires.1.0 c.requires.1.1 c.in-default.ensures c.in-default-repeated.ensures.0 c.in-Some-short-of.ensures
+pub returns-in-Some-short_of : goal.returns-in-Some-short_of
+returns-in-Some-short_of c = short_of_lem c.requires.1.0 c.requires.1.1 c.in_default.ensures c.in_default-repeated.ensures.0 c.in-Some-short_of.ensures
 
 pub returns : goal.returns
-returns c = placed_of c.args.self c.requires.0 c.requires.1.0 c.requires.1.1 c.in-default.ensures c.in-default-repeated.ensures.0 c.in-default-short-of.ensures
+returns c = placed_of c.args.self c.requires.0 c.requires.1.0 c.requires.1.1 c.in_default.ensures c.in_default-repeated.ensures.0 c.in_default-short_of.ensures

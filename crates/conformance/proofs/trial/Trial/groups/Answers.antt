@@ -18,4 +18,4 @@ bounds-first-q c = omega (arith, copies_few c.args.self)
 pub loop-q-preserved : goal.loop-q-preserved
 loop-q-preserved c =
     let h : c.loop-q.q < 512 = omega (arith, copies_few c.args.self) in
-    placing_more c.loop-q.q c.next-of.result c.is-first-of.result c.loop-q.invariant h c.next-of.ensures.told c.is-first-of.ensures
+    placing_more c.loop-q.q c.next_of.result c.is_first_of.result c.loop-q.invariant h c.next_of.ensures.told c.is_first_of.ensures

@@ -16,10 +16,10 @@ loop-k-preserved c =
     let k = c.loop-k.k in
     let l : k < s.b = omega (arith, c.blocks-k-end.ensures, c.loop-k-test.true) in
     let ends = ends_few t.specification.now k l in
-    elim c.if-is-loop.branch [
-      | then-is-loop w ↦ subst (LinkedBelow s (k + 1)) (sym w.links-is)
-          (linked_turn s c.loop-k.links w.add.new.self k (omega arith) (w.if-is-loop.ensures.0 tt) w.sink.ensures w.source.ensures ends.1 ends.0 w.add.ensures c.loop-k.invariant)
-      | else-is-loop w ↦ subst (LinkedBelow s (k + 1)) (sym w.links-is) (linked_skip s c.loop-k.links k w.if-is-loop.ensures.1 c.loop-k.invariant)
+    elim c.if-is_loop.branch [
+      | then-is_loop w ↦ subst (LinkedBelow s (k + 1)) (sym w.links-is)
+          (linked_turn s c.loop-k.links w.add.new.self k (omega arith) (w.if-is_loop.ensures.0 tt) w.sink.ensures w.source.ensures ends.1 ends.0 w.add.ensures c.loop-k.invariant)
+      | else-is_loop w ↦ subst (LinkedBelow s (k + 1)) (sym w.links-is) (linked_skip s c.loop-k.links k w.if-is_loop.ensures.1 c.loop-k.invariant)
     ]
 
 pub returns : goal.returns

@@ -15,17 +15,17 @@ overflow-add-middle c = omega (arith, c.edges-high.type-inv)
 pub overflow-add-low : goal.overflow-add-low
 overflow-add-low c = omega (arith, c.edges-high.type-inv)
 
-pub loop-low-preserved-then-comes-before : goal.loop-low-preserved-then-comes-before
-loop-low-preserved-then-comes-before c =
+pub loop-low-preserved-then-comes_before : goal.loop-low-preserved-then-comes_before
+loop-low-preserved-then-comes_before c =
     let f = c.args.self.run in
-    narrowed_low (run_edges_of f.bytes.now) f.tails f.heads c.args.u c.args.w _ c.loop-low.invariant (omega arith) (omega arith) (c.if-comes-before.ensures.0 tt)
+    narrowed_low (run_edges_of f.bytes.now) f.tails f.heads c.args.u c.args.w _ c.loop-low.invariant (omega arith) (omega arith) (c.if-comes_before.ensures.0 tt)
 
 pub loop-low-preserved : goal.loop-low-preserved
 loop-low-preserved c =
     let f = c.args.self.run in
-    narrowed_high (run_edges_of f.bytes.now) f.tails f.heads c.args.u c.args.w _ c.loop-low.invariant (omega arith) (omega arith) c.if-comes-before.ensures.1
+    narrowed_high (run_edges_of f.bytes.now) f.tails f.heads c.args.u c.args.w _ c.loop-low.invariant (omega arith) (omega arith) c.if-comes_before.ensures.1
 
 pub returns : goal.returns
 returns c =
     let f = c.args.self.run in
-    narrowed_done (run_edges_of f.bytes.now) f.tails f.heads c.args.u c.args.w c.loop-low.invariant c.loop-low-test.false c.stands-at.ensures
+    narrowed_done (run_edges_of f.bytes.now) f.tails f.heads c.args.u c.args.w c.loop-low.invariant c.loop-low-test.false c.stands_at.ensures

@@ -1,8 +1,8 @@
 use Rattle.formats.proofs.RunStated.{root_ranged, copies_ranged, steps_ranged, run_edges_ranged, tails_ascend, heads_ascend}
 use Rattle.formats.proofs.framed_run.FramedRun.opened.Goals as goal
 
-pub invariant-of-result : goal.invariant-of-result
-invariant-of-result c =
+pub invariant_of-result : goal.invariant_of-result
+invariant_of-result c =
     let bytes = c.args.self.bytes.now in
     let framed = c.args.self.framed in
     let inside = c.requires.0 in

@@ -7,8 +7,8 @@ use Rattle.formats.proofs.Rows.{rows_as}
 use Rattle.formats.proofs.Stated.{stated_sized, stated_edges, stated_homes, stated_whole, stated_nests, stated_ends}
 use Rattle.formats.proofs.spec_file.SpecFile.specification.Goals as goal
 
-pub invariant-of-result : goal.invariant-of-result
-invariant-of-result c =
+pub invariant_of-result : goal.invariant_of-result
+invariant_of-result c =
     let bytes = c.args.self.bytes.now in
     let framed = c.args.self.framed in
     let es : kept c.table-edges.result ≡ section made_edge bytes (edges_from bytes) (m_of bytes) = rows_as made_edge c.table-edges.ensures c.edges.ensures in

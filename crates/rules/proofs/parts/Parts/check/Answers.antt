@@ -9,19 +9,19 @@ use Rattle.rules.proofs.parts.Parts.check.Goals as goal
 pub returns-in-Some : goal.returns-in-Some
 returns-in-Some c = cyclic c.in-Some.ensures
 
-pub returns-then-not-whole-ends : goal.returns-then-not-whole-ends
-returns-then-not-whole-ends c = wrong_ends c.in-default.ensures c.if-not-whole-ends.ensures.1
+pub returns-then-not-whole_ends : goal.returns-then-not-whole_ends
+returns-then-not-whole_ends c = wrong_ends c.in_default.ensures c.if-not-whole_ends.ensures.1
 
 pub loop-k-init : goal.loop-k-init
 loop-k-init c = λ j z h. absurd (omega arith)
 
 pub loop-k-preserved : goal.loop-k-preserved
-loop-k-preserved c = passed_more (parts_spec c.args.self.now) c.loop-k.k c.loop-k.invariant c.in-ok-check-block.ensures
+loop-k-preserved c = passed_more (parts_spec c.args.self.now) c.loop-k.k c.loop-k.invariant c.in_ok-check_block.ensures
 
-pub returns-in-err-check-block : goal.returns-in-err-check-block
-returns-in-err-check-block c =
+pub returns-in_err-check_block : goal.returns-in_err-check_block
+returns-in_err-check_block c =
     let p = err_from_is_err_and c.from-residual.result c.from-residual.ensures.1 in
-    rw (p.1, p.2) (c.in-err-check-block.ensures c.in-default.ensures (c.if-not-whole-ends.ensures.0 tt) c.loop-k.invariant)
+    rw (p.1, p.2) (c.in_err-check_block.ensures c.in_default.ensures (c.if-not-whole_ends.ensures.0 tt) c.loop-k.invariant)
 
 pub returns : goal.returns
-returns c = sealed_of (parts_spec c.args.self.now) c.loop-k.k (parts_ranges c.args.self.now) c.in-default.ensures (c.if-not-whole-ends.ensures.0 tt) c.loop-k.invariant (omega arith)
+returns c = sealed_of (parts_spec c.args.self.now) c.loop-k.k (parts_ranges c.args.self.now) c.in_default.ensures (c.if-not-whole_ends.ensures.0 tt) c.loop-k.invariant (omega arith)

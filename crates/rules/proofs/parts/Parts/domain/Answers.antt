@@ -14,9 +14,9 @@ loop-x-preserved c =
     let P : ℕ → Type 0 = Domain (parts_spec c.args.self.now) c.args.k in
     let x = c.loop-x.x in
     let l : x < 64 = omega (arith, c.args.self.now.few, c.loop-x-test.true) in
-    elim c.if-leads-up.branch [
-      | then-leads-up w ↦ subst (λ (r : Row). Filled P r (x + 1)) (sym w.row-is) (filled_put P c.loop-x.row _ x c.loop-x.invariant l (w.if-leads-up.ensures.0 tt) w.insert.ensures)
-      | else-leads-up w ↦ subst (λ (r : Row). Filled P r (x + 1)) (sym w.row-is) (filled_skip P c.loop-x.row x c.loop-x.invariant w.if-leads-up.ensures.1)
+    elim c.if-leads_up.branch [
+      | then-leads_up w ↦ subst (λ (r : Row). Filled P r (x + 1)) (sym w.row-is) (filled_put P c.loop-x.row _ x c.loop-x.invariant l (w.if-leads_up.ensures.0 tt) w.insert.ensures)
+      | else-leads_up w ↦ subst (λ (r : Row). Filled P r (x + 1)) (sym w.row-is) (filled_skip P c.loop-x.row x c.loop-x.invariant w.if-leads_up.ensures.1)
     ]
 
 pub returns : goal.returns

@@ -3,11 +3,11 @@ use Rattle.rules.proofs.ForkDomains.{keeps, empty_breaks}
 use Rattle.rules.proofs.parts.Parts.fork_domain.Goals as goal
 use Rattle.rules.proofs.parts.Parts.fork_domain.Goals.{then-has-via-then-has, then-has-via-else-has+then-has-2, then-not-within-via-then-not-within, then-not-within-via-else-not-within+then-not-within-2}
 
-pub returns-in-default : goal.returns-in-default
-returns-in-default c = (
+pub returns-in_default : goal.returns-in_default
+returns-in_default c = (
   (λ t. absurd t),
   empty_breaks c.args.self.now c.args.k _ _ _ c.requires.0.0 c.domain-domain.ensures c.requires.1 c.requires.2
-      c.in-default.ensures,
+      c.in_default.ensures,
 )
 
 pub returns-then-has : goal.returns-then-has
@@ -32,8 +32,8 @@ returns-then-not-within c = (
       ],
 )
 
-pub returns-then-edges-stay : goal.returns-then-edges-stay
-returns-then-edges-stay c =
+pub returns-then-edges_stay : goal.returns-then-edges_stay
+returns-then-edges_stay c =
     let l = keeps c.args.self.now c.args.k _ _ _ c.requires.0.0 c.domain-domain.ensures c.requires.1 c.requires.2 c.in-Some.x c.in-Some.ensures.0 in (
       (λ t.
           l.0
@@ -42,14 +42,14 @@ returns-then-edges-stay c =
             sink_off = c.if-has-2.ensures.1;
             all_heads = c.if-not-within.ensures.0 tt;
             all_tails = c.if-not-within-2.ensures.0 tt;
-            edges_stay_lem = c.if-edges-stay.ensures.0 tt;
+            edges_stay_lem = c.if-edges_stay.ensures.0 tt;
             connects = c.connects.ensures.0 t;
           })),
       λ f. c.connects.ensures.1 (l.1 f).connects,
     )
 
-pub returns-else-edges-stay : goal.returns-else-edges-stay
-returns-else-edges-stay c = (
-  (λ t. absurd (subst (λ (b : Bool). T b) c.if-edges-stay.false t)),
-  λ f. c.edges-stay.ensures.1 ((keeps c.args.self.now c.args.k _ _ _ c.requires.0.0 c.domain-domain.ensures c.requires.1 c.requires.2 c.in-Some.x c.in-Some.ensures.0).1 f).edges_stay_lem,
+pub returns-else-edges_stay : goal.returns-else-edges_stay
+returns-else-edges_stay c = (
+  (λ t. absurd (subst (λ (b : Bool). T b) c.if-edges_stay.false t)),
+  λ f. c.edges_stay.ensures.1 ((keeps c.args.self.now c.args.k _ _ _ c.requires.0.0 c.domain-domain.ensures c.requires.1 c.requires.2 c.in-Some.x c.in-Some.ensures.0).1 f).edges_stay_lem,
 )

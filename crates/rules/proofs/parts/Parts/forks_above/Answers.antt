@@ -12,17 +12,17 @@ pub loop-j-preserved : goal.loop-j-preserved
 loop-j-preserved c =
     let s = parts_spec c.args.self.now in
     below_more (λ (i : ℕ). 0 < i → s.kind i ≡ 1 → Domain s i c.args.x → Chain s.above c.args.k i) c.loop-j.j c.loop-j.invariant
-    (elim c.else-is-fork.branch [
-      | else-is-fork-via-then-is-fork+then-leads-up+else-not-leads-up w ↦ λ z e d. w.if-not-leads-up.ensures.0 tt
-      | else-is-fork-via-then-is-fork+else-leads-up w ↦ λ z e d. absurd (w.if-leads-up.ensures.1 d)
-      | else-is-fork-via-else-is-fork w ↦ λ z e d. absurd (w.if-is-fork.ensures.1 e)
+    (elim c.else-is_fork.branch [
+      | else-is_fork-via-then-is_fork+then-leads_up+else-not-leads_up w ↦ λ z e d. w.if-not-leads_up.ensures.0 tt
+      | else-is_fork-via-then-is_fork+else-leads_up w ↦ λ z e d. absurd (w.if-leads_up.ensures.1 d)
+      | else-is_fork-via-else-is_fork w ↦ λ z e d. absurd (w.if-is_fork.ensures.1 e)
     ])
 
 pub returns : goal.returns
 returns c = ((λ t i z l. c.loop-j.invariant i (omega arith) z), λ f. tt)
 
-pub returns-then-not-leads-up : goal.returns-then-not-leads-up
-returns-then-not-leads-up c = (
+pub returns-then-not-leads_up : goal.returns-then-not-leads_up
+returns-then-not-leads_up c = (
   (λ t. absurd t),
-  λ f. c.if-not-leads-up.ensures.1 (f c.loop-j.j c.loop-j.auto.j c.loop-j-test.true (c.if-is-fork.ensures.0 tt) (c.if-leads-up.ensures.0 tt)),
+  λ f. c.if-not-leads_up.ensures.1 (f c.loop-j.j c.loop-j.auto.j c.loop-j-test.true (c.if-is_fork.ensures.0 tt) (c.if-leads_up.ensures.0 tt)),
 )

@@ -15,16 +15,16 @@ returns-then-not-has-2 c = (
       ((loop_tested c.args.self.now c.args.k c.domain-domain.result c.args.heads.now c.args.tails.now c.requires.0.0 c.domain-domain.ensures c.requires.1 c.requires.2).1 r).1,
 )
 
-pub returns-then-not-loop-vertices : goal.returns-then-not-loop-vertices
-returns-then-not-loop-vertices c = (
+pub returns-then-not-loop_vertices : goal.returns-then-not-loop_vertices
+returns-then-not-loop_vertices c = (
   λ e. absurd e,
-  λ r. c.if-not-loop-vertices.ensures.1
+  λ r. c.if-not-loop_vertices.ensures.1
       ((loop_tested c.args.self.now c.args.k c.domain-domain.result c.args.heads.now c.args.tails.now c.requires.0.0 c.domain-domain.ensures c.requires.1 c.requires.2).1 r).2,
 )
 
 pub returns : goal.returns
 returns c =
     let w = loop_tested c.args.self.now c.args.k c.domain-domain.result c.args.heads.now c.args.tails.now c.requires.0.0 c.domain-domain.ensures c.requires.1 c.requires.2 in (
-      λ t. w.0 (c.if-not-has.ensures.0 tt, c.if-not-has-2.ensures.0 tt, c.if-not-loop-vertices.ensures.0 tt, c.loop-edges.ensures.0 t),
-      λ r. c.loop-edges.ensures.1 (w.1 r).3,
+      λ t. w.0 (c.if-not-has.ensures.0 tt, c.if-not-has-2.ensures.0 tt, c.if-not-loop_vertices.ensures.0 tt, c.loop_edges.ensures.0 t),
+      λ r. c.loop_edges.ensures.1 (w.1 r).3,
     )

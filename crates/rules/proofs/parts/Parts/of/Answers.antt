@@ -1,8 +1,8 @@
 use Rattle.rules.proofs.PartsOf.{few_of, sized_as, edges_as, homes_as, whole_as, nests_as, ends_as}
 use Rattle.rules.proofs.parts.Parts.of.Goals as goal
 
-pub invariant-of-result : goal.invariant-of-result
-invariant-of-result c =
+pub invariant_of-result : goal.invariant_of-result
+invariant_of-result c =
     let s = c.args.specification.now in
     let e = c.edges-edges.ensures in
     let v = c.vertices-vertices.ensures in

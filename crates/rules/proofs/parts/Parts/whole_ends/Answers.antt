@@ -6,12 +6,12 @@ use Rattle.rules.proofs.parts.Parts.whole_ends.Goals as goal
 
 pub loop-x-preserved : goal.loop-x-preserved
 loop-x-preserved c =
-    below_more (EndsFit c.args.heads.now c.args.tails.now (get_or c.args.self.now.ends.now 0 no_ends)) c.loop-x.x c.loop-x.invariant (c.if-not-ends-fit.ensures.0 tt)
+    below_more (EndsFit c.args.heads.now c.args.tails.now (get_or c.args.self.now.ends.now 0 no_ends)) c.loop-x.x c.loop-x.invariant (c.if-not-ends_fit.ensures.0 tt)
 
-pub returns-then-not-ends-fit : goal.returns-then-not-ends-fit
-returns-then-not-ends-fit c = (
+pub returns-then-not-ends_fit : goal.returns-then-not-ends_fit
+returns-then-not-ends_fit c = (
   λ e. absurd e,
-  λ w. c.if-not-ends-fit.ensures.1
+  λ w. c.if-not-ends_fit.ensures.1
       (fit_of (parts_spec c.args.self.now) c.args.heads.now c.args.tails.now c.requires.0 c.requires.1 (get_or c.args.self.now.ends.now 0 no_ends) refl refl w c.loop-x.x c.loop-x-test.true),
 )
 

@@ -5,12 +5,12 @@ use Rattle.schemes.proofs.matrix.MatrixScheme.learn.Goals as goal
 pub returns : goal.returns
 returns c =
     let spec = c.args.specification.now.specification in
-    let edges = c.edge-graph-edges.result in
+    let edges = c.edge_graph-edges.result in
     let closed = c.close.new.self in
     record {
       own = record {
         counts = learnt_count spec c.specification-2.result.now c.specification-2.ensures edges closed c.vertices.result.now c.vertices.ensures;
-        reaches = λ x y _ _. learnt_reach spec c.specification.result.now c.specification.ensures edges closed c.edge-graph-edges.ensures c.close.ensures x y;
+        reaches = λ x y _ _. learnt_reach spec c.specification.result.now c.specification.ensures edges closed c.edge_graph-edges.ensures c.close.ensures x y;
       };
       tally_stays = refl;
     }

@@ -7,7 +7,7 @@ reached-requires c =
     let spec = c.args.self.now.specification in
     let es = c.edges.result.now in
     let vs = c.vertices-vertices.result.now in
-    let inside = c.in-ok-check-vertices.ensures in (
+    let inside = c.in_ok-check_vertices.ensures in (
       walker_holds spec es vs c.edges.ensures c.vertices-vertices.ensures,
       walker_inside spec es vs c.edges.ensures c.vertices-vertices.ensures c.args.x inside.0,
     )
@@ -18,7 +18,7 @@ returns c =
     let es = c.edges.result.now in
     let vs = c.vertices-vertices.result.now in
     let n = walker_count spec es vs c.edges.ensures c.vertices-vertices.ensures in
-    let inside = c.in-ok-check-vertices.ensures in
+    let inside = c.in_ok-check_vertices.ensures in
     record {
       first_vertex = omega (arith, n, inside);
       second_vertex = omega (arith, n, inside);

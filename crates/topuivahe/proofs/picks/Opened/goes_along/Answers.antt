@@ -7,4 +7,4 @@ use Rattle.topuivahe.proofs.picks.Opened.goes_along.Goals as goal
 pub returns : goal.returns
 returns c =
     let o = c.args.self in
-    told_along (T c.has-edge.result) (opened_spec o) (steps_of o.run.bytes.now) c.edge-edge.ensures c.step-from.ensures c.step-to.ensures c.has-edge.ensures
+    told_along (T c.has_edge.result) (opened_spec o) (steps_of o.run.bytes.now) c.edge-edge.ensures c.step-from.ensures c.step-to.ensures c.has_edge.ensures

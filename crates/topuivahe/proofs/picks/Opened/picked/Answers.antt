@@ -8,9 +8,9 @@ loop-j-init c = gathered_none c.new-found.ensures.items
 
 pub loop-j-preserved : goal.loop-j-preserved
 loop-j-preserved c = elim c.if-means.branch [
-  | then-means+in-ok-push w ↦ gathered_more c.loop-j.invariant (w.if-means.ensures.0 tt) (ap vec_items w.found-is ∙ w.in-ok-push.ensures.items)
+  | then-means+in_ok-push w ↦ gathered_more c.loop-j.invariant (w.if-means.ensures.0 tt) (ap vec_items w.found-is ∙ w.in_ok-push.ensures.items)
   | else-means w ↦ gathered_same c.loop-j.invariant (λ p. w.if-means.ensures.1 p) (ap vec_items w.found-is)
 ]
 
 pub returns : goal.returns
-returns c = gathered_all c.loop-j.invariant (omega (arith, c.loop-j.auto.j-end, c.loop-j-test.false, c.how-many-j-end.ensures))
+returns c = gathered_all c.loop-j.invariant (omega (arith, c.loop-j.auto.j-end, c.loop-j-test.false, c.how_many-j-end.ensures))
