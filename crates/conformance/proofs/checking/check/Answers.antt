@@ -28,7 +28,7 @@ returns-in_err-open c =
     let n : length c.vertices.result.now ≡ s.n = ap length c.vertices.ensures ∙ ap (λ (t : Specification). length (kept t.vertices)) c.specification-specification.ensures in
     let b : length c.nests.result.now ≡ s.b = ap length c.nests.ensures ∙ ap (λ (t : Specification). length (kept t.nests)) c.specification-specification.ensures in
     let e = c.in_err-open.ensures in
-    let p = err_from_is_err_and c.from-residual.result c.from-residual.ensures.1 in
+    let p = err_from_is_err_and c.from_residual.result c.from_residual.ensures.1 in
     record { verdict = rw (p.1, p.2) (not_opened (refused_as s bytes n b e.0)); place = place_left s bytes n b e.0 e.1 }
 
 pub returns : goal.returns

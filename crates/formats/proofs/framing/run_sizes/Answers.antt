@@ -6,7 +6,7 @@ use Rattle.formats.proofs.framing.run_sizes.Goals as goal
 
 pub returns-in_err-copies : goal.returns-in_err-copies
 returns-in_err-copies c =
-    let p = err_from_is_err_and c.from-residual.result c.from-residual.ensures.1 in
+    let p = err_from_is_err_and c.from_residual.result c.from_residual.ensures.1 in
     rw (p.1, p.2) (λ n b. (by_head (run_format n b) c.in_err-copies.field-0.0 c.in_err-copies.ensures).0)
 
 pub returns-then-bytes-needed : goal.returns-then-bytes-needed

@@ -6,7 +6,7 @@ use Rattle.formats.proofs.reading.sizes.Goals as goal
 
 pub returns-in_err-vertices : goal.returns-in_err-vertices
 returns-in_err-vertices c =
-    let p = err_from_is_err_and c.from-residual.result c.from-residual.ensures.1 in
+    let p = err_from_is_err_and c.from_residual.result c.from_residual.ensures.1 in
     rw (p.1, p.2) (by_head spec_format c.in_err-vertices.field-0.0 c.in_err-vertices.ensures)
 
 pub returns-then-bytes-needed : goal.returns-then-bytes-needed

@@ -5,6 +5,15 @@ pub invariant_of-result : goal.invariant_of-result
 invariant_of-result c =
     let bytes = c.args.self.bytes.now in
     let framed = c.args.self.framed in
-    let inside = c.requires.0 in
-    let ascending = c.requires.1 in
-    (c.args.self.sizes, (framed, (root_ranged framed inside, (copies_ranged framed inside, (steps_ranged framed inside, (run_edges_ranged framed inside, (tails_ascend bytes ascending, (heads_ascend bytes ascending, tt))))))))
+    let inside = c.requires.run_inside in
+    let ascending = c.requires.ascending in
+    record {
+      sizes = c.args.self.sizes;
+      framed = framed;
+      rooted = root_ranged framed inside;
+      nested = copies_ranged framed inside;
+      placed = steps_ranged framed inside;
+      edged = run_edges_ranged framed inside;
+      tails = tails_ascend bytes ascending;
+      heads = heads_ascend bytes ascending;
+    }

@@ -20,7 +20,7 @@ loop-k-preserved c = passed_more (parts_spec c.args.self.now) c.loop-k.k c.loop-
 
 pub returns-in_err-check_block : goal.returns-in_err-check_block
 returns-in_err-check_block c =
-    let p = err_from_is_err_and c.from-residual.result c.from-residual.ensures.1 in
+    let p = err_from_is_err_and c.from_residual.result c.from_residual.ensures.1 in
     rw (p.1, p.2) (c.in_err-check_block.ensures c.in_default.ensures (c.if-not-whole_ends.ensures.0 tt) c.loop-k.invariant)
 
 pub returns : goal.returns
