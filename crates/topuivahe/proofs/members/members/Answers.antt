@@ -2,7 +2,7 @@ use Rattle.std.proofs.Common.{◌≡◌, List, length, vec_items, ap, ◌∙◌,
 use Rattle.records.specs.declared.kinds.Vertex.{Vertex}
 use Rattle.topuivahe.proofs.Gathered.{gathered_none, gathered_more, gathered_same, gathered_all}
 use Rattle.topuivahe.proofs.members.members.Goals as goal
-use Rattle.topuivahe.proofs.members.members.Goals.{then-means+in-ok-push, else-means}
+use Rattle.topuivahe.proofs.members.members.Goals.{then-means+in_ok-push, else-means}
 
 pub loop-vertex-init : goal.loop-vertex-init
 loop-vertex-init c = gathered_none c.new-found.ensures.items

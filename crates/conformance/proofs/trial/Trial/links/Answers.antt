@@ -4,7 +4,7 @@ use Rattle.conformance.specs.Trials.{trial_spec}
 use Rattle.conformance.proofs.Linking.{linked_none, linked_skip, linked_turn}
 use Rattle.conformance.proofs.Tabled.{ends_few}
 use Rattle.conformance.proofs.trial.Trial.links.Goals as goal
-use Rattle.conformance.proofs.trial.Trial.links.Goals.{then-is-loop, else-is-loop}
+use Rattle.conformance.proofs.trial.Trial.links.Goals.{then-is_loop, else-is_loop}
 
 pub loop-k-init : goal.loop-k-init
 loop-k-init c = linked_none (trial_spec c.args.self) c.args.edges c.requires

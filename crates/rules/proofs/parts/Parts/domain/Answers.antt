@@ -4,7 +4,7 @@ use Rattle.graphs.specs.declared.row.Row.{Row}
 use Rattle.rules.specs.Parts.{parts_spec}
 use Rattle.rules.proofs.Filling.{Filled, filled_none, filled_put, filled_skip}
 use Rattle.rules.proofs.parts.Parts.domain.Goals as goal
-use Rattle.rules.proofs.parts.Parts.domain.Goals.{then-leads-up, else-leads-up}
+use Rattle.rules.proofs.parts.Parts.domain.Goals.{then-leads_up, else-leads_up}
 
 pub loop-x-init : goal.loop-x-init
 loop-x-init c = filled_none (Domain (parts_spec c.args.self.now) c.args.k) c.empty-row.result c.empty-row.ensures

@@ -3,7 +3,7 @@ use Rattle.model.specs.Forests.{Chain}
 use Rattle.model.specs.Specifications.{Domain}
 use Rattle.rules.specs.Parts.{parts_spec}
 use Rattle.rules.proofs.parts.Parts.forks_above.Goals as goal
-use Rattle.rules.proofs.parts.Parts.forks_above.Goals.{else-is-fork-via-then-is-fork+then-leads-up+else-not-leads-up, else-is-fork-via-then-is-fork+else-leads-up, else-is-fork-via-else-is-fork}
+use Rattle.rules.proofs.parts.Parts.forks_above.Goals.{else-is_fork-via-then-is_fork+then-leads_up+else-not-leads_up, else-is_fork-via-then-is_fork+else-leads_up, else-is_fork-via-else-is_fork}
 
 pub loop-j-init : goal.loop-j-init
 loop-j-init c i l z = absurd (omega arith)

@@ -9,7 +9,7 @@ loop-edge-init c = drawn_none c.args.self.now.edges.now c.new-graph.result c.new
 pub loop-edge-preserved : goal.loop-edge-preserved
 loop-edge-preserved c =
     let p = c.args.self.now in
-    let i = c.loop-edge.edge_index in
+    let i = c.loop-edge.edge-index in
     let e = p.edged i c.loop-edge-test.true in
     let t : tail_at p.edges.now i < 64 = omega (arith, e.0, p.few) in
     let h : head_at p.edges.now i < 64 = omega (arith, e.1, p.few) in
@@ -18,5 +18,5 @@ loop-edge-preserved c =
 pub returns : goal.returns
 returns c =
     let es = c.args.self.now.edges.now in
-    let e : c.loop-edge.edge_index ≡ length es = omega arith in
+    let e : c.loop-edge.edge-index ≡ length es = omega arith in
     drawn_all es c.loop-edge.graph (subst (λ (n : ℕ). Drawn es c.loop-edge.graph n) e c.loop-edge.invariant)

@@ -7,7 +7,13 @@ invariant_of-result c =
     let e = c.edges-edges.ensures in
     let v = c.vertices-vertices.ensures in
     let n = c.nests-nests.ensures in
-    let x = c.ends-ends.ensures in (
-      few_of s.vertices.items _ s.vertices.len 64 v s.vertices.fits,
-      (sized_as e v n x s.sized, (edges_as e v n x s.edged, (homes_as e v n x s.housed, (whole_as e v n x s.rooted, (nests_as e v n x s.nested, (ends_as e v n x s.ended, tt)))))),
-    )
+    let x = c.ends-ends.ensures in
+    record {
+      few = few_of s.vertices.items _ s.vertices.len 64 v s.vertices.fits;
+      sized = sized_as e v n x s.sized;
+      edged = edges_as e v n x s.edged;
+      housed = homes_as e v n x s.housed;
+      rooted = whole_as e v n x s.rooted;
+      nested = nests_as e v n x s.nested;
+      ended = ends_as e v n x s.ended;
+    }

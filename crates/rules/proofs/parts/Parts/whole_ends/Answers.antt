@@ -12,11 +12,11 @@ pub returns-then-not-ends_fit : goal.returns-then-not-ends_fit
 returns-then-not-ends_fit c = (
   λ e. absurd e,
   λ w. c.if-not-ends_fit.ensures.1
-      (fit_of (parts_spec c.args.self.now) c.args.heads.now c.args.tails.now c.requires.0 c.requires.1 (get_or c.args.self.now.ends.now 0 no_ends) refl refl w c.loop-x.x c.loop-x-test.true),
+      (fit_of (parts_spec c.args.self.now) c.args.heads.now c.args.tails.now c.requires.holds_heads c.requires.holds_tails (get_or c.args.self.now.ends.now 0 no_ends) refl refl w c.loop-x.x c.loop-x-test.true),
 )
 
 pub returns : goal.returns
 returns c = (
-  λ _. ends_of (parts_spec c.args.self.now) c.args.heads.now c.args.tails.now c.requires.0 c.requires.1 (get_or c.args.self.now.ends.now 0 no_ends) refl refl (λ x h. c.loop-x.invariant x (omega arith)),
+  λ _. ends_of (parts_spec c.args.self.now) c.args.heads.now c.args.tails.now c.requires.holds_heads c.requires.holds_tails (get_or c.args.self.now.ends.now 0 no_ends) refl refl (λ x h. c.loop-x.invariant x (omega arith)),
   λ _. tt,
 )

@@ -1,7 +1,7 @@
 use Rattle.std.proofs.Common.{vec_items, ap, ◌∙◌, arith}
 use Rattle.topuivahe.proofs.Gathered.{gathered_none, gathered_more, gathered_same, gathered_all}
 use Rattle.topuivahe.proofs.picks.Opened.picked.Goals as goal
-use Rattle.topuivahe.proofs.picks.Opened.picked.Goals.{then-means+in-ok-push, else-means}
+use Rattle.topuivahe.proofs.picks.Opened.picked.Goals.{then-means+in_ok-push, else-means}
 
 pub loop-j-init : goal.loop-j-init
 loop-j-init c = gathered_none c.new-found.ensures.items
