@@ -6,4 +6,4 @@ use Rattle.nesting.proofs.sealed.SealedSpecification.new.Goals as goal
 pub invariant_of-result : goal.invariant_of-result
 invariant_of-result c =
     let e = c.new-specification.ensures in
-    (∣ subst Sealed (sym (trivial_of c.new-specification.result e.0 e.1 e.2 e.3)) trivial_sealed ∣₁, tt)
+    record { sealed = ∣ subst Sealed (sym (trivial_of c.new-specification.result e.0 e.1 e.2 e.3)) trivial_sealed ∣₁ }
