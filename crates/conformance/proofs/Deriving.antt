@@ -38,13 +38,13 @@ end_pos M d = cases M.left_end (λ x. absurd (d x.1)) (λ x. x.0)
 
 module _ (t : Trial) {u w : ℕ} {meeting : Meeting} (M : StepsMeet (trial_run t) u w meeting) where
   pub under_left : Under (trial_run t) u meeting.left
-  under_left = (M.TailStep, M.chains_meet.from_left)
+  under_left = (M.tail_step, M.chains_meet.from_left)
 
   pub under_right : Under (trial_run t) w meeting.right
   under_right = (M.head_step, M.chains_meet.from_right)
 
   pub under_common : Under (trial_run t) u meeting.common × Under (trial_run t) w meeting.common
-  under_common = ((M.TailStep, meets_left M.chains_meet), (M.head_step, meets_right M.chains_meet))
+  under_common = ((M.tail_step, meets_left M.chains_meet), (M.head_step, meets_right M.chains_meet))
 
   -- copies of one group that lead to the meeting are copies above 0
 
@@ -55,14 +55,14 @@ module _ (t : Trial) {u w : ℕ} {meeting : Meeting} (M : StepsMeet (trial_run t
   right_pos g = end_pos (meets_flip M.chains_meet) g.1
 
   pub left_range : meeting.left < (trial_run t).c
-  left_range = omega (arith, chain_le (trial_falls t) M.chains_meet.from_left, trial_context t M.TailStep)
+  left_range = omega (arith, chain_le (trial_falls t) M.chains_meet.from_left, trial_context t M.tail_step)
 
   module _ (P : Placed (trial_spec t) (trial_run t)) where
     plain_of : Plain (trial_spec t) (trial_run t) u w ↔ PlainAt (trial_spec t) (trial_run t) u w meeting.common meeting.left meeting.right
-    plain_of = plain_meets (trial_nest t) P M.TailStep M.head_step M.chains_meet
+    plain_of = plain_meets (trial_nest t) P M.tail_step M.head_step M.chains_meet
 
     back_of : Back (trial_spec t) (trial_run t) u w ↔ BackAt (trial_spec t) (trial_run t) u w meeting.common meeting.left meeting.right
-    back_of = back_meets (trial_nest t) P M.TailStep M.head_step M.chains_meet
+    back_of = back_meets (trial_nest t) P M.tail_step M.head_step M.chains_meet
 
     -- an edge of the first kind does not lead from one copy of a group to another
 

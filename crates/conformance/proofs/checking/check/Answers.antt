@@ -9,14 +9,14 @@ use Rattle.conformance.proofs.Checked.{accepted_as, refused_as, place_left, plac
 use Rattle.conformance.proofs.Tabled.{vertices_few, blocks_few}
 use Rattle.conformance.proofs.checking.check.Goals as goal
 
-pub overflow-cast-vertices : goal.overflow-cast-vertices
-overflow-cast-vertices c =
+pub overflow_cast-vertices : goal.overflow_cast-vertices
+overflow_cast-vertices c =
     let s = c.specification-specification.result.now in
     let l : length c.vertices.result.now ≡ (spec_of s).n = ap length c.vertices.ensures in
     omega (arith, vertices_few s)
 
-pub overflow-cast-blocks : goal.overflow-cast-blocks
-overflow-cast-blocks c =
+pub overflow_cast-blocks : goal.overflow_cast-blocks
+overflow_cast-blocks c =
     let s = c.specification-specification.result.now in
     let l : length c.nests.result.now ≡ (spec_of s).b = ap length c.nests.ensures in
     omega (arith, blocks_few s)

@@ -8,7 +8,7 @@ use Rattle.topuivahe.proofs.members.is_head.Goals as goal
 pub returns-then-edge-vertex : goal.returns-then-edge-vertex
 returns-then-edge-vertex c =
     let es = kept c.args.specification.now.edges in
-    let i : ℕ = c.loop-edge.edge_index in
+    let i : ℕ = c.loop-edge.edge-index in
     let h : i < length es = subst (λ (l : List SpecEdge). i < length l) c.edges-edge-items.ensures c.loop-edge-test.true in
     let e : (get_or es i no_edge).head ≡ c.args.vertex = subst (λ (l : List SpecEdge). (get_or l i no_edge).head ≡ c.args.vertex) c.edges-edge-items.ensures c.if-edge-vertex.true in
     ((λ _. ((get_or es i no_edge).tail, subst (λ (v : ℕ). T (listed es (get_or es i no_edge).tail v)) e (at_listed es i h))), λ _. tt)

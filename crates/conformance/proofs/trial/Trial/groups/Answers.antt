@@ -3,8 +3,8 @@ use Rattle.conformance.proofs.Grouping.{placing_more}
 use Rattle.conformance.proofs.RunRanges.{copies_few}
 use Rattle.conformance.proofs.trial.Trial.groups.Goals as goal
 
-pub overflow-cast-next : goal.overflow-cast-next
-overflow-cast-next c = omega (arith, copies_few c.args.self)
+pub overflow_cast-next : goal.overflow_cast-next
+overflow_cast-next c = omega (arith, copies_few c.args.self)
 
 pub offset-bounds-next-q : goal.offset-bounds-next-q
 offset-bounds-next-q c = omega (arith, copies_few c.args.self)

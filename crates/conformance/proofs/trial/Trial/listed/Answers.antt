@@ -9,11 +9,11 @@ loop-low-init c =
     let es = run_edges_of f.bytes.now in
     subst (λ high. Narrowed es f.tails f.heads c.args.u c.args.w 0 high) (sym c.edges-high.ensures) (narrowed_all es f.tails f.heads c.args.u c.args.w)
 
-pub overflow-add-middle : goal.overflow-add-middle
-overflow-add-middle c = omega (arith, c.edges-high.type-inv)
+pub overflow_add-middle : goal.overflow_add-middle
+overflow_add-middle c = omega (arith, c.edges-high.type-inv)
 
-pub overflow-add-low : goal.overflow-add-low
-overflow-add-low c = omega (arith, c.edges-high.type-inv)
+pub overflow_add-low : goal.overflow_add-low
+overflow_add-low c = omega (arith, c.edges-high.type-inv)
 
 pub loop-low-preserved-then-comes_before : goal.loop-low-preserved-then-comes_before
 loop-low-preserved-then-comes_before c =

@@ -4,7 +4,7 @@ use Rattle.conformance.proofs.Marking.{pair_fits, marking_none, marking_repeats,
 use Rattle.conformance.proofs.trial.Trial.repeated.Goals as goal
 
 pub loop-u-init : goal.loop-u-init
-loop-u-init c = marking_none (trial_run c.args.self) c.args.grid.now c.requires.1
+loop-u-init c = marking_none (trial_run c.args.self) c.args.grid.now c.requires.by_index
 
 pub returns-then-mark : goal.returns-then-mark
 returns-then-mark c = marking_repeats (trial_run c.args.self) c.loop-u.grid c.loop-u.u c.loop-u.invariant (omega arith) (c.if-mark.ensures.was.0 tt)
@@ -12,7 +12,7 @@ returns-then-mark c = marking_repeats (trial_run c.args.self) c.loop-u.grid c.lo
 pub loop-u-preserved : goal.loop-u-preserved
 loop-u-preserved c =
     marking_more (trial_run c.args.self) c.loop-u.grid c.loop-u.u c.loop-u.invariant c.mark.new.grid
-    (pair_fits c.args.self c.requires.0 c.loop-u.u (omega arith)) c.if-mark.ensures.was.1 c.mark.ensures.marks
+    (pair_fits c.args.self c.requires.vertices_value c.loop-u.u (omega arith)) c.if-mark.ensures.was.1 c.mark.ensures.marks
 
 pub returns : goal.returns
 returns c = marking_all (trial_run c.args.self) c.loop-u.grid c.loop-u.u c.loop-u.invariant (omega arith)

@@ -8,7 +8,7 @@ use Rattle.topuivahe.proofs.picks.Opened.has_edge.Goals as goal
 pub returns-then-edge-y : goal.returns-then-edge-y
 returns-then-edge-y c =
     let es = kept c.args.self.specification.now.edges in
-    let i : ℕ = c.loop-edge.edge_index in
+    let i : ℕ = c.loop-edge.edge-index in
     let h : i < length es = subst (λ (l : List SpecEdge). i < length l) c.edges-edge-items.ensures c.loop-edge-test.true in
     let a : (get_or es i no_edge).tail ≡ c.args.x = subst (λ (l : List SpecEdge). (get_or l i no_edge).tail ≡ c.args.x) c.edges-edge-items.ensures c.if-edge-x.true in
     let b : (get_or es i no_edge).head ≡ c.args.y = subst (λ (l : List SpecEdge). (get_or l i no_edge).head ≡ c.args.y) c.edges-edge-items.ensures c.if-edge-y.true in
