@@ -6,8 +6,8 @@ use Rattle.conformance.proofs.trial.Trial.groups.Goals as goal
 pub overflow_cast-next : goal.overflow_cast-next
 overflow_cast-next c = omega (arith, copies_few c.args.self)
 
-pub offset-bounds-next-q : goal.offset-bounds-next-q
-offset-bounds-next-q c = omega (arith, copies_few c.args.self)
+pub offset_bounds-next-q : goal.offset_bounds-next-q
+offset_bounds-next-q c = omega (arith, copies_few c.args.self)
 
 pub bounds-next-q : goal.bounds-next-q
 bounds-next-q c = omega (arith, copies_few c.args.self)

@@ -10,10 +10,10 @@ loop-low-init c =
     subst (λ high. Narrowed es f.tails f.heads c.args.u c.args.w 0 high) (sym c.edges-high.ensures) (narrowed_all es f.tails f.heads c.args.u c.args.w)
 
 pub overflow_add-middle : goal.overflow_add-middle
-overflow_add-middle c = omega (arith, c.edges-high.type-inv)
+overflow_add-middle c = omega (arith, c.edges-high.type_inv)
 
 pub overflow_add-low : goal.overflow_add-low
-overflow_add-low c = omega (arith, c.edges-high.type-inv)
+overflow_add-low c = omega (arith, c.edges-high.type_inv)
 
 pub loop-low-preserved-then-comes_before : goal.loop-low-preserved-then-comes_before
 loop-low-preserved-then-comes_before c =
