@@ -7,4 +7,4 @@ use Rattle.topuivahe.proofs.members.home_of.Goals as goal
 
 pub returns-in-None : goal.returns-in-None
 returns-in-None c =
-    sym (ap (λ (v : Vertex). v.home) (read_past c.vertices.result.now (kept c.args.specification.now.vertices) c.args.vertex no_vertex c.in-None.ensures.finds.0 c.vertices.ensures))
+    sym (ap (λ (v : Vertex). v.home) (read_past c.vertices.result.now (kept c.args.specification.now.vertices) c.args.vertex no_vertex c.in-None.ensures.lookup.0 c.vertices.ensures))

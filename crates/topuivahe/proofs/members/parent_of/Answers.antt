@@ -7,4 +7,4 @@ use Rattle.topuivahe.proofs.members.parent_of.Goals as goal
 
 pub returns-in-None : goal.returns-in-None
 returns-in-None c =
-    sym (ap (λ (n : Nest). n.parent) (read_past c.nests.result.now (kept c.args.specification.now.nests) c.args.block no_nest c.in-None.ensures.finds.0 c.nests.ensures))
+    sym (ap (λ (n : Nest). n.parent) (read_past c.nests.result.now (kept c.args.specification.now.nests) c.args.block no_nest c.in-None.ensures.lookup.0 c.nests.ensures))
