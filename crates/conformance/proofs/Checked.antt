@@ -1,12 +1,12 @@
 -- From opening a run file and checking it to the verdict, and to what the place then holds.
-use Rattle.std.proofs.Common.{◌≡◌, ℕ, List, Ok, Err, Result, sym, ◌∙◌, subst, MatchResult}
+use Rattle.std.proofs.Common.{◌≡◌, ℕ, List, Ok, Err, Result, ◌∙◌, subst, MatchResult}
 use Rattle.model.specs.Specifications.{Spec}
 use Rattle.model.specs.Runs.{Conforms}
 use Rattle.formats.specs.RunFiles.{run_of, RunAccepted, RunRefused}
 use Rattle.formats.specs.declared.faults.Fault.{Fault}
 use Rattle.formats.specs.declared.run_file.RunFile.{RunFile}
 use Rattle.formats.proofs.Decided.{reading_law}
-use Rattle.conformance.specs.Deciding.{RunConforms, TurnedDown, not_opened, not_conforming, PlaceAfter}
+use Rattle.conformance.specs.Deciding.{RunConforms, TurnedDown, not_conforming, PlaceAfter}
 use Rattle.conformance.specs.Faults.{conformance_fault}
 use Rattle.conformance.specs.Nonconforming.{Nonconforming}
 use Rattle.conformance.specs.declared.faults.ConformanceFault.{ConformanceFault}

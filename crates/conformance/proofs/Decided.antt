@@ -10,7 +10,7 @@ use Rattle.formats.proofs.Decided.{lowest_one, reading_law}
 use Rattle.nesting.specs.Copies.{Follows, Filled, Misnested}
 use Rattle.nesting.proofs.Decided.{copies_law}
 use Rattle.records.specs.declared.kinds.RunEdge.{RunEdge}
-use Rattle.conformance.specs.Deciding.{RunConforms, TurnedDown, not_opened, not_conforming, Decided, ConformanceLaw}
+use Rattle.conformance.specs.Deciding.{RunConforms, TurnedDown, not_opened, not_conforming, ConformanceLaw}
 use Rattle.conformance.specs.Nonconforming.{Astray, AtHome, Repeats, Once, ShortOf, Stepped, Stray, AllDerived, Unlisted, Nonconforming, misnested, astray, repeated, short_of_lem, stray, unlisted}
 use Rattle.conformance.proofs.Halving.{stands_thus}
 

@@ -1,5 +1,5 @@
 -- Groups found by comparing copies, and a table of them filled copy by copy.
-use Rattle.std.proofs.Common.{◌≡◌, ℕ, ◌+◌, ◌<◌, ◌≤◌, Bool, false, T, ◌≢◌, ◌↔◌, List, length, get_or, set, arith, length-set, get_or-set_other, get_or-set_same, below_more}
+use Rattle.std.proofs.Common.{◌≡◌, ℕ, ◌+◌, ◌<◌, Bool, false, T, ◌≢◌, ◌↔◌, List, length, get_or, set, arith, length-set, get_or-set_other, get_or-set_same, below_more}
 use Rattle.model.specs.Runs.{Run, First}
 use Rattle.conformance.specs.Groups.{Alike, NextOrLast, GroupPlace}
 

@@ -1,5 +1,5 @@
 -- An edge of an ascending list, found by halving.
-use Rattle.std.proofs.Common.{◌≡◌, ℕ, zero, suc, ◌+◌, ◌-◌, ◌<◌, ◌≤◌, T, ◌⊎◌, ◌↔◌, List, length, get_or, sym, refl, ◌∙◌, subst, inl, inr, arith}
+use Rattle.std.proofs.Common.{◌≡◌, ℕ, zero, suc, ◌+◌, ◌-◌, ◌<◌, ◌≤◌, T, ◌↔◌, List, length, get_or, sym, ◌∙◌, subst, inl, inr, arith}
 use Rattle.model.proofs.Cases.{cases, same_or, less_or}
 use Rattle.formats.proofs.Pairs.{pair_at, at_pair}
 use Rattle.formats.specs.Runs.{no_run_edge, lists_edge, TailsAscend, HeadsAscend}

@@ -1,6 +1,6 @@
 -- A graph of edges to which the turns of loops are added one by one.
-use Rattle.std.proofs.Common.{◌≡◌, ℕ, ◌+◌, ◌<◌, ◌≤◌, ◌⊎◌, ◌↔◌, sym, ap, ◌∙◌, subst, inl, inr, arith}
-use Rattle.model.specs.Specifications.{Spec, Edge}
+use Rattle.std.proofs.Common.{◌≡◌, ℕ, ◌+◌, ◌<◌, ◌⊎◌, ◌↔◌, sym, ap, ◌∙◌, inl, inr, arith}
+use Rattle.model.specs.Specifications.{Spec}
 use Rattle.model.proofs.Cases.{cases, same_or}
 use Rattle.graphs.specs.Graphs.{Joins}
 use Rattle.graphs.specs.Rows.{vertices}

@@ -1,5 +1,5 @@
 -- The refusals of a file exclude each other.
-use Rattle.std.proofs.Common.{◌≡◌, ℕ, ◌<◌, List, refl, ap, inl, inr, arith}
+use Rattle.std.proofs.Common.{◌≡◌, ℕ, List, refl, ap, inl, inr, arith}
 use Rattle.std.proofs.lemmas.Bool.{cases_lt, cases_eq}
 use Rattle.records.specs.Kinds.{Kind}
 use Rattle.formats.specs.Deciding.{ReadingLaw}

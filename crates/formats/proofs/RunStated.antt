@@ -1,9 +1,9 @@
 -- A run file whose numbers all lie in their ranges, its edges ascending, states a run of which both are so.
-use Rattle.std.proofs.Common.{◌≡◌, ℕ, ◌-◌, ◌<◌, ◌≤◌, List, length, get_or, sym, ap, subst, inl, inr, arith}
+use Rattle.std.proofs.Common.{◌≡◌, ℕ, ◌-◌, ◌<◌, List, length, get_or, sym, ap, subst, inl, inr, arith}
 use Rattle.records.specs.Kinds.{Within, below, but_zero_lem}
 use Rattle.formats.specs.RunFiles.{c_of, v_of, e_of, copies_from, steps_from, run_edges_from, copies_of, steps_of, run_edges_of, RunFramed, RunInside}
 use Rattle.formats.specs.Runs.{made_copy, made_step, made_run_edge, no_copy, no_step, no_run_edge, RootRanged, CopiesRanged, StepsRanged, RunEdgesRanged, TailsAscend, HeadsAscend}
-use Rattle.formats.specs.Sections.{stated, Ascends, Ascending}
+use Rattle.formats.specs.Sections.{stated, Ascending}
 use Rattle.formats.proofs.Rows.{section_length, section_at}
 use Rattle.formats.proofs.Stated.{past_zero}
 use Rattle.records.specs.declared.kinds.RunCopy.{RunCopy}

@@ -5,7 +5,7 @@ use Rattle.model.specs.Runs.{Run}
 use Rattle.formats.specs.declared.faults.Fault.{Fault}
 use Rattle.formats.proofs.Decided.{lowest_one}
 use Rattle.nesting.specs.Copies.{Misplaced, Follows, Lacking, Filled, Misnested, under_wrong, lacks_one}
-use Rattle.nesting.specs.Deciding.{Decided, CopiesLaw}
+use Rattle.nesting.specs.Deciding.{CopiesLaw}
 
 module _ (s : Spec) (r : Run) where
   not_misplaced : {i : ℕ} → Follows s r → ¬ (Misplaced s r i)

@@ -4,7 +4,7 @@ use Rattle.std.proofs.lemmas.Bool.{cases_lt, cases_eq}
 use Rattle.model.specs.Specifications.{Spec, Sealed, KeepsLoopRule, KeepsForkRule, Distinct}
 use Rattle.formats.specs.declared.faults.Fault.{Fault}
 use Rattle.formats.proofs.Decided.{lowest_one}
-use Rattle.rules.specs.Deciding.{Decided, SealingLaw}
+use Rattle.rules.specs.Deciding.{SealingLaw}
 use Rattle.rules.specs.Unsealed.{OnCycle, KeepsRule, Passes, PassedBelow, Unsealed, cyclic, wrong_ends, breaks_loop, breaks_fork, same_domain}
 
 two_kinds : (s : Spec) {j k : ℕ} → j ≡ k → s.kind j ≡ 2 → s.kind k ≡ 1 → ⊥

@@ -4,7 +4,7 @@ use Rattle.model.specs.Specifications.{Spec, Edge, HasWholeEnds}
 use Rattle.records.specs.declared.kinds.Ends.{Ends}
 use Rattle.graphs.specs.Rows.{Holds}
 use Rattle.graphs.specs.declared.row.Row.{Row}
-use Rattle.rules.specs.Parts.{HoldsHeads, HoldsTails, MissingOnly, EndsFit}
+use Rattle.rules.specs.Parts.{HoldsHeads, HoldsTails, EndsFit}
 
 module _ (s : Spec) (heads tails : Row) (in_heads : HoldsHeads s heads) (in_tails : HoldsTails s tails) where
   pub no_edge_in : (x : ℕ) → (¬ (Holds heads x)) ↔ ((y : ℕ) → ¬ (Edge s y x))

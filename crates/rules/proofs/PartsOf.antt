@@ -1,5 +1,5 @@
 -- The tables of a specification keep their ranges when they are lent.
-use Rattle.std.proofs.Common.{◌≡◌, ℕ, ◌≤◌, List, length, take, sym, ap, ◌∙◌, subst, arith}
+use Rattle.std.proofs.Common.{◌≡◌, ℕ, ◌≤◌, List, length, take, ap, arith}
 use Rattle.std.proofs.lemmas.List.{length-take}
 use Rattle.formats.specs.Specifications.{Sized, EdgesRanged, HomesRanged, WholeRanged, NestsRanged, EndsRanged}
 use Rattle.records.specs.declared.kinds.SpecEdge.{SpecEdge}

@@ -1,11 +1,11 @@
 -- Tables whose numbers lie in their ranges are a specification whose numbers do.
-use Rattle.std.proofs.Common.{◌≡◌, ℕ, ◌<◌, ◌≤◌, T, ◌⊎◌, List, length, get_or, sym, refl, ap, ◌∙◌, subst, inl, inr, arith}
+use Rattle.std.proofs.Common.{◌≡◌, ℕ, ◌<◌, ◌≤◌, T, ◌⊎◌, List, length, get_or, refl, ap, subst, inl, inr, arith}
 use Rattle.std.proofs.lemmas.List.{get_or_past}
 use Rattle.std.proofs.lemmas.Bool.{cases_eq, cases_lt}
 use Rattle.model.specs.Forests.{Falls}
-use Rattle.model.specs.Specifications.{Spec, Edge, InRanges}
+use Rattle.model.specs.Specifications.{InRanges}
 use Rattle.formats.proofs.Pairs.{pair_at, at_pair}
-use Rattle.formats.specs.Specifications.{no_edge, no_nest, no_ends, listed, spec_from, Sized, EdgesRanged, HomesRanged, WholeRanged, NestsRanged, EndsRanged}
+use Rattle.formats.specs.Specifications.{no_edge, no_nest, listed, spec_from, Sized, EdgesRanged, HomesRanged, WholeRanged, NestsRanged, EndsRanged}
 use Rattle.records.specs.declared.kinds.SpecEdge.{SpecEdge}
 use Rattle.records.specs.declared.kinds.Vertex.{Vertex}
 use Rattle.records.specs.declared.kinds.Nest.{Nest}

@@ -1,5 +1,5 @@
 -- A walk up the parents, one step at a time.
-use Rattle.std.proofs.Common.{◌≡◌, ℕ, ◌<◌, ◌≤◌, T, eqb, ◌↔◌, arith, eqb→eq}
+use Rattle.std.proofs.Common.{ℕ, ◌<◌, ◌≤◌, T, eqb, ◌↔◌, arith, eqb→eq}
 use Rattle.model.specs.Forests.{Chain, up, Falls}
 use Rattle.model.proofs.Cases.{cases}
 use Rattle.model.proofs.Chains.{chain_parent, chain_eq, chain_le}

@@ -1,5 +1,5 @@
 -- The rule of loops, vertex by vertex and edge by edge, over rows: what the code tests.
-use Rattle.std.specs.Prelude.{◌≡◌, ℕ, ◌≢◌, ◌⊎◌}
+use Rattle.std.specs.Prelude.{◌≡◌, ℕ, ◌⊎◌}
 use Rattle.records.specs.declared.kinds.Ends.{Ends}
 use Rattle.graphs.specs.Rows.{Holds}
 use Rattle.graphs.specs.declared.row.Row.{Row}

@@ -1,7 +1,7 @@
 -- Why a specification is not sealed.
 use Rattle.std.specs.Prelude.{◌≡◌, ℕ, ◌<◌}
 use Rattle.model.specs.Paths.{Path⁺}
-use Rattle.model.specs.Specifications.{Spec, Edge, Acyclic, HasWholeEnds, KeepsLoopRule, KeepsForkRule, SameDomain, Distinct}
+use Rattle.model.specs.Specifications.{Spec, Edge, Acyclic, HasWholeEnds, KeepsLoopRule, KeepsForkRule, Distinct}
 use Rattle.formats.specs.Sections.{Lowest}
 use Rattle.formats.specs.declared.faults.Fault.{Fault}
 

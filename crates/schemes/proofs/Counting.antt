@@ -1,5 +1,5 @@
 -- The tally after many questions.
-use Rattle.std.proofs.Common.{◌≡◌, ℕ, zero, suc, ◌+◌, ◌%◌, ◌^◌, ◌<◌, arith}
+use Rattle.std.proofs.Common.{◌≡◌, ℕ, ◌+◌, ◌%◌, ◌^◌, ◌<◌, arith}
 use Rattle.schemes.specs.Meanings.{Meaning}
 use Rattle.schemes.specs.Tallies.{Asked, none, more, TallyLaw}
 

@@ -1,7 +1,7 @@
 -- The outcomes of a question exclude each other.
 use Rattle.std.proofs.Common.{◌≡◌, ℕ, ◌<◌, Bool, true, false, T, sym, refl, ◌∙◌, arith}
 use Rattle.formats.specs.declared.faults.Fault.{Fault}
-use Rattle.schemes.specs.Deciding.{Decided, QuestionLaw, LearningLaw}
+use Rattle.schemes.specs.Deciding.{QuestionLaw, LearningLaw}
 use Rattle.schemes.specs.Meanings.{Meaning, Questioned, IsNoVertex, first_outside, second_outside}
 
 -- tests that say the same are the same

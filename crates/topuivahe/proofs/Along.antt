@@ -1,5 +1,5 @@
 -- An edge of a run, told by the origins of its two steps.
-use Rattle.std.proofs.Common.{◌≡◌, ℕ, ◌↔◌, List, get_or, subst}
+use Rattle.std.proofs.Common.{◌≡◌, ◌↔◌, List, get_or, subst}
 use Rattle.model.specs.Specifications.{Spec, Edge}
 use Rattle.formats.specs.Runs.{no_step}
 use Rattle.records.specs.declared.kinds.RunEdge.{RunEdge}

@@ -1,4 +1,4 @@
-use Rattle.std.proofs.Common.{◌≡◌, List, length, vec_items, ap, ◌∙◌, arith}
+use Rattle.std.proofs.Common.{List, length, vec_items, ap, ◌∙◌, arith}
 use Rattle.records.specs.declared.kinds.Vertex.{Vertex}
 use Rattle.topuivahe.proofs.Gathered.{gathered_none, gathered_more, gathered_same, gathered_all}
 use Rattle.topuivahe.proofs.members.members.Goals as goal

@@ -1,5 +1,3 @@
-use Rattle.std.proofs.Common.{arith}
-use Rattle.formats.specs.RunFiles.{run_edges_of}
 use Rattle.conformance.specs.Trials.{trial_run, trial_spec}
 use Rattle.conformance.proofs.SameEdges.{steps_as, derived_as}
 use Rattle.conformance.proofs.trial.Trial.derived_at.Goals as goal

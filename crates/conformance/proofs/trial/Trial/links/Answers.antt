@@ -1,4 +1,4 @@
-use Rattle.std.proofs.Common.{◌≡◌, ℕ, ◌+◌, ◌<◌, sym, subst, arith}
+use Rattle.std.proofs.Common.{◌≡◌, ◌+◌, ◌<◌, sym, subst, arith}
 use Rattle.conformance.specs.Links.{LinkedBelow}
 use Rattle.conformance.specs.Trials.{trial_spec}
 use Rattle.conformance.proofs.Linking.{linked_none, linked_skip, linked_turn}

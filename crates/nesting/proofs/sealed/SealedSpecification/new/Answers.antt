@@ -1,5 +1,5 @@
 use Rattle.std.proofs.Common.{sym, subst}
-use Rattle.model.specs.Specifications.{Spec, Sealed}
+use Rattle.model.specs.Specifications.{Sealed}
 use Rattle.rules.proofs.SealedLaws.{trivial_sealed, trivial_of}
 use Rattle.nesting.proofs.sealed.SealedSpecification.new.Goals as goal
 
