@@ -1,5 +1,5 @@
 use crate::failure::Failure;
-use crate::file::{Sizes, stated_sizes};
+use crate::file::{Sizes, first_sizes};
 use crate::forms::Form;
 use crate::picks::{Opened, Pick};
 use crate::refusal::{last_line, sealing_words};
@@ -22,7 +22,7 @@ fn heading(out: &mut String, file: File, labels: (&str, &str, &str)) -> Result<(
     let length = file.bytes.len();
     let (a, b, c) = labels;
     writeln!(out, "File      {name}\nLength    {length} bytes")?;
-    if let Some(sizes) = stated_sizes(file.bytes) {
+    if let Some(sizes) = first_sizes(file.bytes) {
         let Sizes {
             first,
             second,

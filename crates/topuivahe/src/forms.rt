@@ -1,4 +1,4 @@
-use crate::file::{Sizes, stated_sizes};
+use crate::file::{FileSizes, Sizes, first_sizes, stated_sizes};
 use records::kinds::{Nest, RunCopy, RunEdge, SpecEdge, Step, Vertex};
 use records::record::Record;
 
@@ -87,11 +87,11 @@ impl Stretch {
 
 const WHOLE: Option<&str> = Some("0, since block 0 is the whole");
 
-fn specification_parts(sizes: Sizes) -> [Stretch; 8] {
-    let Sizes {
-        first: n,
-        second: m,
-        third: b,
+fn specification_parts(sizes: FileSizes) -> [Stretch; 8] {
+    let FileSizes {
+        vertices: n,
+        edges: m,
+        blocks: b,
     } = sizes;
     let vertex = "a vertex, so below";
     [
@@ -184,10 +184,11 @@ impl Form {
 
     /// Which number the byte `at` of a file belongs to.
     pub fn spot(self, bytes: &[u8], at: usize) -> Option<Spot> {
-        let sizes = stated_sizes(bytes)?;
         match self {
-            Form::Specification => spot_of(&specification_parts(sizes), at),
-            Form::Run { vertices, blocks } => spot_of(&run_parts(sizes, vertices, blocks), at),
+            Form::Specification => spot_of(&specification_parts(stated_sizes(bytes)?), at),
+            Form::Run { vertices, blocks } => {
+                spot_of(&run_parts(first_sizes(bytes)?, vertices, blocks), at)
+            }
         }
     }
 }

@@ -104,15 +104,19 @@ fn what_is_asked(rt: &HostRuntime) -> io::Result<Option<Asked>> {
 fn usage(rt: &HostRuntime) -> Result<(), Failure> {
     // the name of the second scheme in two pieces, for the reason given at `Kind::named`
     rt.eprintln(concat!(
-        "usage: topuivahe check SPEC [RUN]\n",
-        "       topuivahe reach SPEC [X Y] [--scheme matrix|sea",
+        "usage: topuivahe check FILE\n",
+        "Reads the workflow specification in FILE, seals it and prints an account of it.\n",
+        "The last line is 'sealed', or begins 'refused' and says which rule is broken, and where.\n",
+        "The status is 0 if the specification is sealed, and 1 otherwise.\n\n",
+        "usage: topuivahe check SPEC RUN\n",
+        "Checks that the run in the file RUN conforms to the specification in SPEC, and prints an account of both.\n",
+        "The last line is 'conforms', or begins 'refused' and says which rule is broken, and where.\n",
+        "The status is 0 if the run conforms, and 1 otherwise.\n\n",
+        "usage: topuivahe reach SPEC [X Y] [--scheme matrix|sea",
         "rch]\n",
-        "check reads the workflow specification in the file SPEC, seals it and prints an account of it. With RUN, it checks that the run in\n",
-        "that file conforms to the specification, and prints an account of the run. The last line is 'sealed' or, with RUN, 'conforms'; or\n",
-        "it begins 'refused' and says which rule is broken, and where.\n",
-        "reach says whether zero or more edges lead from vertex X to vertex Y, and how many questions were answered; without X and Y, for\n",
+        "Says whether zero or more edges lead from vertex X to vertex Y, and how many questions were answered; without X and Y, for\n",
         "each vertex those to which edges lead from it. The scheme that answers is the matrix if none is named.\n",
-        "The status is 0 if all was accepted, and 1 otherwise."
+        "The status is 0 if the specification is sealed and all was answered, and 1 otherwise."
     ))?;
     Err(Failure::Usage)
 }

@@ -1,4 +1,4 @@
-use crate::file::number_at;
+use crate::file::number_or_zero;
 use crate::forms::{Form, Size, Spot};
 use formats::faults::ReadingFault;
 use std::alloc::{AllocError, Global};
@@ -16,14 +16,14 @@ pub fn reading_words(
             "the file is too short to hold its own sizes: they take 6 bytes, and it has {present}"
         ),
         ReadingFault::Size { which } => {
-            let size = number_at(bytes, which.saturating_mul(2));
+            let size = number_or_zero(bytes, which.saturating_mul(2));
             size_words(heap, form.size(which), size)
         }
         ReadingFault::Length { needed } => format!(in heap;
             "the file's length does not fit its sizes: it has {length} bytes, and its sizes ask for {needed}"
         ),
         ReadingFault::Range { at } => match form.spot(bytes, at) {
-            Some(spot) => range_words(heap, spot, number_at(bytes, at), at),
+            Some(spot) => range_words(heap, spot, number_or_zero(bytes, at), at),
             None => format!(in heap; "the number at byte {at} lies outside its range"),
         },
         ReadingFault::Order { at } => match form.spot(bytes, at) {
@@ -62,10 +62,10 @@ fn order_words(heap: Global, spot: Spot, bytes: &[u8], at: usize) -> Result<Stri
     let edge = spot.record;
     let before = edge.saturating_sub(1);
     let head_at = at.saturating_add(2 * spot.count as usize);
-    let tail = number_at(bytes, at);
-    let head = number_at(bytes, head_at);
-    let last_tail = number_at(bytes, at.saturating_sub(2));
-    let last_head = number_at(bytes, head_at.saturating_sub(2));
+    let tail = number_or_zero(bytes, at);
+    let head = number_or_zero(bytes, head_at);
+    let last_tail = number_or_zero(bytes, at.saturating_sub(2));
+    let last_head = number_or_zero(bytes, head_at.saturating_sub(2));
     format!(in heap;
         "the edges do not ascend by tail and then by head, each listed once: edge {edge} from {tail} to {head}, whose tail is at byte {at}, comes after edge {before} from {last_tail} to {last_head}"
     )
