@@ -4,8 +4,7 @@ use Rattle.model.proofs.Tests.{eq→eqb, and_so, and_thus}
 use Rattle.graphs.specs.declared.row.Row.{Row}
 use Rattle.graphs.specs.declared.graph.Graph.{Graph}
 use Rattle.graphs.specs.Rows.{bit, vertices, Has, Holds}
-use Rattle.graphs.specs.Grids.{none, Marks}
-use Rattle.graphs.specs.Graphs.{Joins}
+use Rattle.graphs.specs.Graphs.{none, Joins}
 use Rattle.graphs.specs.Tests.{row_test, edge_test}
 
 pub row_test_law : (row : Row) (x : ℕ) → T (row_test row x) ↔ Holds row x
@@ -17,9 +16,9 @@ row_test_law row x =
     )
 
 pub edge_test_law : (g : Graph) (x y : ℕ) → T (edge_test g x y) ↔ Joins g x y
-unfolding edge_test Marks
+unfolding edge_test Joins
 edge_test_law g x y =
-    let row : Row = get_or g.grid.rows x none in (
+    let row : Row = get_or g.rows x none in (
       (λ t. let w = and_so (ltb x vertices) (row_test row y) t in (ltb→lt x vertices w.0, (row_test_law row y).0 w.1)),
       (λ h. and_thus (ltb x vertices) (row_test row y) (lt→ltb x vertices h.0) ((row_test_law row y).1 h.1)),
     )

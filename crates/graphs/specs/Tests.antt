@@ -3,7 +3,7 @@ use Rattle.std.specs.Prelude.{ℕ, ◌/◌, ◌%◌, Bool, ◌&&◌, ◌==◌, n
 use Rattle.graphs.specs.declared.row.Row.{Row}
 use Rattle.graphs.specs.declared.graph.Graph.{Graph}
 use Rattle.graphs.specs.Rows.{bit, vertices}
-use Rattle.graphs.specs.Grids.{none}
+use Rattle.graphs.specs.Graphs.{none}
 
 -- whether x is a vertex whose bit is set in the row
 unfoldable pub row_test : Row → ℕ → Bool
@@ -11,4 +11,4 @@ row_test row x = nat_lt x vertices && bit (slice_index row.words (x / 64)) (x % 
 
 -- whether an edge leads from x to y
 unfoldable pub edge_test : Graph → ℕ → ℕ → Bool
-edge_test g x y = nat_lt x vertices && row_test (slice_index_or g.grid.rows x none) y
+edge_test g x y = nat_lt x vertices && row_test (slice_index_or g.rows x none) y

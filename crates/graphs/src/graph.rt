@@ -3,13 +3,12 @@ ghost use Rattle.model.specs.Paths.{Path⁺};
 ghost use Rattle.graphs.specs.Graphs.{Joins};
 ghost use Rattle.graphs.specs.Rows.{Holds, vertices};
 
-use crate::grid::Grid;
 use crate::row::{Row, VERTICES};
 
 /// A relation on the numbers below VERTICES: row x is the set of all y to which an edge leads from x.
 #[derive(Clone, Copy)]
 pub struct Graph {
-    grid: Grid<VERTICES>,
+    rows: [Row; VERTICES],
 }
 
 impl Graph {
@@ -17,21 +16,24 @@ impl Graph {
     pub fn new() -> Self
         ensures { (x y : ℕ) → Joins result x y → ⊥ }
     {
-        Graph { grid: Grid::new() }
+        let rows = [Row::empty(); VERTICES];
+        Graph { rows }
     }
 
     /// Adds the edge from x to y; where one of them is no vertex, nothing changes.
     pub fn add(&mut self, x: usize, y: usize)
         ensures { (a b : ℕ) → Joins self.new a b ↔ (Joins self.old a b ⊎ ((a ≡ x) × (b ≡ y) × (x < vertices) × (y < vertices))) }
     {
-        self.grid.add(x, y);
+        if x < VERTICES {
+            self.rows[x].insert(y);
+        }
     }
 
     /// Whether an edge leads from x to y.
     pub fn has(&self, x: usize, y: usize) -> bool
         ensures { T result ↔ Joins self.now x y }
     {
-        self.grid.has(x, y)
+        x < VERTICES && self.rows[x].has(y)
     }
 
     /// The graph becomes its closure: an edge from x to y wherever one or more edges led from x to y.
@@ -48,8 +50,8 @@ impl Graph {
         requires { k < vertices }
         ensures { (x y : ℕ) → Joins self.new x y ↔ (Joins self.old x y ⊎ (Joins self.old x k × Joins self.old k y)) }
     {
-        let via = self.grid.rows[k];
-        for row in self.grid.rows.iter_mut() {
+        let via = self.rows[k];
+        for row in self.rows.iter_mut() {
             *row = widened(*row, via, k);
         }
     }
