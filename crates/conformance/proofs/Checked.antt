@@ -5,7 +5,7 @@ use Rattle.model.specs.Runs.{Conforms}
 use Rattle.formats.specs.RunFiles.{run_of, RunAccepted, RunRefused}
 use Rattle.formats.specs.declared.faults.Fault.{Fault}
 use Rattle.formats.specs.declared.run_file.RunFile.{RunFile}
-use Rattle.formats.proofs.Decided.{reading_law}
+use Rattle.formats.proofs.Decided.{run_reading_law}
 use Rattle.conformance.specs.Deciding.{RunConforms, TurnedDown, not_conforming, PlaceAfter}
 use Rattle.conformance.specs.Faults.{conformance_fault}
 use Rattle.conformance.specs.Nonconforming.{Nonconforming}
@@ -20,12 +20,12 @@ module _ (s : Spec) (bytes : List ℕ) {n b : ℕ} (at_n : n ≡ s.n) (at_b : b 
   refused_as {f} a = subst (λ y. RunRefused s.n y bytes f) at_b (subst (λ x. RunRefused x b bytes f) at_n a)
 
   pub place_left : {f : Fault} {before after : RunFile} → RunRefused n b bytes f → after ≡ before → PlaceAfter s bytes before after
-  place_left {f} r e = record { held = λ a. absurd ((reading_law.of_runs s.n s.b bytes).never_both a f (refused_as r)); left = λ g x. e }
+  place_left {f} r e = record { held = λ a. absurd ((run_reading_law s.n s.b bytes).never_both a f (refused_as r)); left = λ g x. e }
 
   pub place_held : (before after : RunFile) → RunAccepted n b bytes → after.bytes.now ≡ bytes → after.vertices ≡ n → after.blocks ≡ b → PlaceAfter s bytes before after
   place_held before after a e v k = record {
     held = λ x. (e, v ∙ at_n, k ∙ at_b);
-    left = λ f r. absurd ((reading_law.of_runs s.n s.b bytes).never_both (accepted_as a) f r);
+    left = λ f r. absurd ((run_reading_law s.n s.b bytes).never_both (accepted_as a) f r);
   }
 
 pub verdict_as : {X : Type 0} (r : Result X ConformanceFault) {s s' : Spec} {bytes bytes' : List ℕ} → s ≡ s' → bytes ≡ bytes' → RunAccepted s'.n s'.b bytes'

@@ -6,7 +6,7 @@ use Rattle.formats.specs.Runs.{no_run_edge}
 use Rattle.formats.specs.Files.{DecidedOf}
 use Rattle.formats.specs.RunFiles.{run_of, run_edges_of, run_format}
 use Rattle.formats.specs.declared.faults.Fault.{Fault}
-use Rattle.formats.proofs.Decided.{lowest_one, reading_law}
+use Rattle.formats.proofs.Decided.{lowest_one, run_reading_law}
 use Rattle.nesting.specs.Copies.{Follows, Filled, Misnested}
 use Rattle.nesting.proofs.Decided.{copies_law}
 use Rattle.records.specs.declared.kinds.RunEdge.{RunEdge}
@@ -22,7 +22,7 @@ module _ (s : Spec) (bytes : List ℕ) where
   es = run_edges_of bytes
 
   opening : DecidedOf (run_format s.n s.b) bytes
-  opening = reading_law.of_runs s.n s.b bytes
+  opening = run_reading_law s.n s.b bytes
 
   nested : {f : Fault} → Follows s r → Filled s r → ¬ (Misnested s r f)
   nested p q m = (copies_law s r).never_both p q _ m

@@ -2,12 +2,13 @@
 use Rattle.std.proofs.Common.{◌≡◌, ℕ, List, refl, ap, inl, inr, arith}
 use Rattle.std.proofs.lemmas.Bool.{cases_lt, cases_eq}
 use Rattle.records.specs.Kinds.{Kind}
-use Rattle.formats.specs.Deciding.{ReadingLaw}
+use Rattle.formats.specs.Deciding.{ReadingLaw, RunReadingLaw}
 use Rattle.formats.specs.Files.{Format, BadSizeOf, bad_first, bad_second, bad_third, SizesFitOf, RefusedOf, too_short, bad_size, bad_length, out_of_range, out_of_order, AcceptedOf, DecidedOf}
 use Rattle.formats.specs.RunFiles.{run_format, RunInside, RunNumberOutside, of_copies, of_steps, of_run_edges}
 use Rattle.formats.specs.Sections.{Lowest, Unordered}
 use Rattle.formats.specs.SpecFiles.{spec_format, AllInside, NumberOutside, of_edges, of_vertices, of_nests, of_ends}
 use Rattle.formats.specs.declared.faults.Fault.{Fault}
+use Rattle.formats.proofs.AsFormat.{accepted_to_format, refused_to_format}
 use Rattle.formats.proofs.Ranges.{none_outside}
 
 pub lowest_one : (P : ℕ → Type 0) {p q : ℕ} → Lowest P p → Lowest P q → p ≡ q
@@ -83,8 +84,14 @@ run_in a (of_copies o) = none_outside a.copies_inside o
 run_in a (of_steps o) = none_outside a.steps_inside o
 run_in a (of_run_edges o) = none_outside a.run_edges_inside o
 
+spec_decided : (bytes : List ℕ) → DecidedOf spec_format bytes
+spec_decided bytes = decided spec_format bytes (λ p. spec_in)
+
 pub reading_law : ReadingLaw
-reading_law = record {
-  of_specifications = λ bytes. decided spec_format bytes (λ p. spec_in);
-  of_runs = λ n b bytes. decided (run_format n b) bytes (λ p. run_in);
+reading_law bytes = record {
+  never_both = λ a f r. (spec_decided bytes).never_both (accepted_to_format a) f (refused_to_format r);
+  one_fault = λ f g r q. (spec_decided bytes).one_fault f g (refused_to_format r) (refused_to_format q);
 }
+
+pub run_reading_law : RunReadingLaw
+run_reading_law n b bytes = decided (run_format n b) bytes (λ p. run_in)

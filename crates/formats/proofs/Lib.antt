@@ -1,4 +1,5 @@
 pub mod Pairs
+pub mod AsFormat
 pub mod Ranges
 pub mod RunRanges
 pub mod Decided

@@ -1,8 +1,15 @@
-ghost use Rattle.formats.specs.Deciding.{ReadingLaw};
+ghost use Rattle.formats.specs.Deciding.{ReadingLaw, RunReadingLaw};
 
-/// That a file of either format is not both accepted and refused, and refused in one way only.
+/// That a specification file is accepted, or refused in one way only.
 pub fn reading_law_stands() -> u8
     ensures { ReadingLaw }
+{
+    0
+}
+
+/// That a run file is accepted, or refused in one way only, whatever numbers of vertices and blocks it is held against.
+pub fn run_reading_law_stands() -> u8
+    ensures { RunReadingLaw }
 {
     0
 }

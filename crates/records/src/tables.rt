@@ -1,4 +1,4 @@
-ghost use Rattle.std.specs.Prelude.{◌≡◌, ◌+◌, ◌≤◌, ltb, [], ◌∷◌, ◌++◌, take, if◌then◌else◌, nat_lt, slice_index_or};
+ghost use Rattle.std.specs.Prelude.{◌≡◌, ◌+◌, ◌<◌, ◌≤◌, [], ◌∷◌, ◌++◌, take, if◌then◌else◌, nat_lt, slice_index_or};
 
 use std::alloc::AllocError;
 
@@ -31,13 +31,22 @@ impl<T: Copy, const N: usize> Table<T, N> {
         }
     }
 
-    /// A table of one item, or of none where there is no place for it.
+    /// A table of one item.
     pub fn only(item: T) -> Self
-        ensures { take result.len result.items ≡ (if ltb 0 N then item ∷ [] else []) }
+        requires { 0 < N }
+        ensures { take result.len result.items ≡ item ∷ [] }
     {
-        let mut table = Table::new(item);
-        let _ = table.push(item);
-        table
+        Table {
+            items: [item; N],
+            len: 1,
+        }
+    }
+
+    /// How many items the table holds.
+    pub fn len(&self) -> usize
+        ensures { result ≡ self.now.len }
+    {
+        self.len
     }
 
     /// One item more, or false where the table is full.
