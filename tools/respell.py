@@ -16,15 +16,7 @@ OTHERWISE = {
     'No-vertex': 'IsNoVertex',
     'bit-or': 'bit_either',
     'but-zero': 'but_zero_lem',
-    'edges-stay': 'edges_stay_lem',
-    'ends-inside': 'ends_inside_lem',
     'how-many': 'how_many_lem',
-    'in-domain': 'in_domain_lem',
-    'is-first': 'is_first_lem',
-    'no-in': 'no_in_lem',
-    'no-out': 'no_out_lem',
-    'short-of': 'short_of_lem',
-    'whole-ends': 'whole_ends_lem',
 }
 # Lemmas of the library that are imported by an older path.
 LIBRARY = {'get_or-eq_default', 'div-eq_of_lt'}

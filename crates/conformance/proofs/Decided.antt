@@ -11,7 +11,7 @@ use Rattle.nesting.specs.Copies.{Follows, Filled, Misnested}
 use Rattle.nesting.proofs.Decided.{copies_law}
 use Rattle.records.specs.declared.kinds.RunEdge.{RunEdge}
 use Rattle.conformance.specs.Deciding.{RunConforms, TurnedDown, not_opened, not_conforming, ConformanceLaw}
-use Rattle.conformance.specs.Nonconforming.{Astray, AtHome, Repeats, Once, ShortOf, Stepped, Stray, AllDerived, Unlisted, Nonconforming, misnested, astray, repeated, short_of_lem, stray, unlisted}
+use Rattle.conformance.specs.Nonconforming.{Astray, AtHome, Repeats, Once, ShortOf, Stepped, Stray, AllDerived, Unlisted, Nonconforming, misnested, astray, repeated, short_of, stray, unlisted}
 use Rattle.conformance.proofs.Halving.{stands_thus}
 
 module _ (s : Spec) (bytes : List ℕ) where
@@ -46,37 +46,37 @@ module _ (s : Spec) (bytes : List ℕ) where
   one (misnested m) (misnested m') = (copies_law s r).one_fault _ _ m m'
   one (misnested m) (astray fo' fi' l') = absurd (nested fo' fi' m)
   one (misnested m) (repeated fo' fi' ho' l') = absurd (nested fo' fi' m)
-  one (misnested m) (short_of_lem fo' fi' ho' on' l') = absurd (nested fo' fi' m)
+  one (misnested m) (short_of fo' fi' ho' on' l') = absurd (nested fo' fi' m)
   one (misnested m) (stray P' l') = absurd (nested P'.follows P'.children m)
   one (misnested m) (unlisted P' D' l') = absurd (nested P'.follows P'.children m)
   one (astray fo fi l) (misnested m') = absurd (nested fo fi m')
   one (astray fo fi l) (astray fo' fi' l') = ap (λ i. record { layer = 3; number = 13; place = i }) (lowest_one (Astray s r) l l')
   one (astray fo fi l) (repeated fo' fi' ho' l') = absurd (not_astray ho' l.0)
-  one (astray fo fi l) (short_of_lem fo' fi' ho' on' l') = absurd (not_astray ho' l.0)
+  one (astray fo fi l) (short_of fo' fi' ho' on' l') = absurd (not_astray ho' l.0)
   one (astray fo fi l) (stray P' l') = absurd (not_astray P'.at_home l.0)
   one (astray fo fi l) (unlisted P' D' l') = absurd (not_astray P'.at_home l.0)
   one (repeated fo fi ho l) (misnested m') = absurd (nested fo fi m')
   one (repeated fo fi ho l) (astray fo' fi' l') = absurd (not_astray ho l'.0)
   one (repeated fo fi ho l) (repeated fo' fi' ho' l') = ap (λ i. record { layer = 3; number = 14; place = i }) (lowest_one (Repeats r) l l')
-  one (repeated fo fi ho l) (short_of_lem fo' fi' ho' on' l') = absurd (not_repeated on' l.0)
+  one (repeated fo fi ho l) (short_of fo' fi' ho' on' l') = absurd (not_repeated on' l.0)
   one (repeated fo fi ho l) (stray P' l') = absurd (not_repeated P'.only_step l.0)
   one (repeated fo fi ho l) (unlisted P' D' l') = absurd (not_repeated P'.only_step l.0)
-  one (short_of_lem fo fi ho on l) (misnested m') = absurd (nested fo fi m')
-  one (short_of_lem fo fi ho on l) (astray fo' fi' l') = absurd (not_astray ho l'.0)
-  one (short_of_lem fo fi ho on l) (repeated fo' fi' ho' l') = absurd (not_repeated on l'.0)
-  one (short_of_lem fo fi ho on l) (short_of_lem fo' fi' ho' on' l') = ap (λ i. record { layer = 3; number = 15; place = i }) (lowest_one (ShortOf s r) l l')
-  one (short_of_lem fo fi ho on l) (stray P' l') = absurd (not_short P'.one_step l.0)
-  one (short_of_lem fo fi ho on l) (unlisted P' D' l') = absurd (not_short P'.one_step l.0)
+  one (short_of fo fi ho on l) (misnested m') = absurd (nested fo fi m')
+  one (short_of fo fi ho on l) (astray fo' fi' l') = absurd (not_astray ho l'.0)
+  one (short_of fo fi ho on l) (repeated fo' fi' ho' l') = absurd (not_repeated on l'.0)
+  one (short_of fo fi ho on l) (short_of fo' fi' ho' on' l') = ap (λ i. record { layer = 3; number = 15; place = i }) (lowest_one (ShortOf s r) l l')
+  one (short_of fo fi ho on l) (stray P' l') = absurd (not_short P'.one_step l.0)
+  one (short_of fo fi ho on l) (unlisted P' D' l') = absurd (not_short P'.one_step l.0)
   one (stray P l) (misnested m') = absurd (nested P.follows P.children m')
   one (stray P l) (astray fo' fi' l') = absurd (not_astray P.at_home l'.0)
   one (stray P l) (repeated fo' fi' ho' l') = absurd (not_repeated P.only_step l'.0)
-  one (stray P l) (short_of_lem fo' fi' ho' on' l') = absurd (not_short P.one_step l'.0)
+  one (stray P l) (short_of fo' fi' ho' on' l') = absurd (not_short P.one_step l'.0)
   one (stray P l) (stray P' l') = ap (λ i. record { layer = 3; number = 16; place = i }) (lowest_one (Stray s r es) l l')
   one (stray P l) (unlisted P' D' l') = absurd (not_stray D' l.0)
   one (unlisted P D l) (misnested m') = absurd (nested P.follows P.children m')
   one (unlisted P D l) (astray fo' fi' l') = absurd (not_astray P.at_home l'.0)
   one (unlisted P D l) (repeated fo' fi' ho' l') = absurd (not_repeated P.only_step l'.0)
-  one (unlisted P D l) (short_of_lem fo' fi' ho' on' l') = absurd (not_short P.one_step l'.0)
+  one (unlisted P D l) (short_of fo' fi' ho' on' l') = absurd (not_short P.one_step l'.0)
   one (unlisted P D l) (stray P' l') = absurd (not_stray D l'.0)
   one (unlisted P D l) (unlisted P' D' l') = ap (λ i. record { layer = 3; number = 17; place = i }) (lowest_one (Unlisted s r) l l')
 
@@ -84,7 +84,7 @@ module _ (s : Spec) (bytes : List ℕ) where
   both C (misnested m) = nested C.follows C.children m
   both C (astray fo fi l) = not_astray C.at_home l.0
   both C (repeated fo fi ho l) = not_repeated C.only_step l.0
-  both C (short_of_lem fo fi ho on l) = not_short C.one_step l.0
+  both C (short_of fo fi ho on l) = not_short C.one_step l.0
   both C (stray {k} P l) =
       let e = get_or es k no_run_edge in
       l.0.1 ((C.exactly e.tail e.head).0 (stands_thus es e.tail e.head k (l.0.0, refl, refl)))

@@ -56,7 +56,7 @@ pub data Nonconforming (s : Spec) (bytes : List ℕ) : Fault → Type 0 where
       → Nonconforming s bytes (record { layer = 3; number = 13; place = u })
   repeated : {u : ℕ} → Follows s (run_of bytes) → Filled s (run_of bytes) → AtHome s (run_of bytes) → Lowest (Repeats (run_of bytes)) u
       → Nonconforming s bytes (record { layer = 3; number = 14; place = u })
-  short_of_lem : {i : ℕ} → Follows s (run_of bytes) → Filled s (run_of bytes) → AtHome s (run_of bytes) → Once (run_of bytes)
+  short_of : {i : ℕ} → Follows s (run_of bytes) → Filled s (run_of bytes) → AtHome s (run_of bytes) → Once (run_of bytes)
       → Lowest (ShortOf s (run_of bytes)) i → Nonconforming s bytes (record { layer = 3; number = 15; place = i })
   stray : {k : ℕ} → Placed s (run_of bytes) → Lowest (Stray s (run_of bytes) (run_edges_of bytes)) k
       → Nonconforming s bytes (record { layer = 3; number = 16; place = k })

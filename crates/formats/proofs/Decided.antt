@@ -77,7 +77,7 @@ spec_in : {bytes : List ℕ} {p : ℕ} → AllInside bytes → NumberOutside byt
 spec_in a (of_edges o) = none_outside a.edges_inside o
 spec_in a (of_vertices o) = none_outside a.vertices_inside o
 spec_in a (of_nests o) = none_outside a.nests_inside o
-spec_in a (of_ends o) = none_outside a.ends_inside_lem o
+spec_in a (of_ends o) = none_outside a.ends_inside o
 
 run_in : {n b : ℕ} {bytes : List ℕ} {p : ℕ} → RunInside n b bytes → RunNumberOutside n b bytes p → ⊥
 run_in a (of_copies o) = none_outside a.copies_inside o

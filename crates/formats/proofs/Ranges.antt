@@ -160,5 +160,5 @@ module _ (bytes : List ℕ) where
   )
 
   pub file_done : (r : Option ℕ) → EdgesIn → VerticesIn → NestsIn → MatchOption r EndsIn (Lowest EndsOut) → MatchOption r (AllInside bytes) (Lowest (NumberOutside bytes))
-  file_done None a b c d = record { edges_inside = a; vertices_inside = b; nests_inside = c; ends_inside_lem = d }
+  file_done None a b c d = record { edges_inside = a; vertices_inside = b; nests_inside = c; ends_inside = d }
   file_done (Some p) a b c d = lowest_ends a b c d

@@ -75,4 +75,4 @@ module _ {bytes : List ℕ} (framed : Framed bytes) (inside : AllInside bytes)
   stated_ends k h =
       let l : k < b_of bytes = omega (arith, xs_long) in
       let e = ap (λ (l : List Ends). get_or l k no_ends) xs_is ∙ section_at made_ends bytes (ends_from bytes) (b_of bytes) k no_ends l in
-      (omega (arith, vs_long, ap (λ (v : Ends). v.source) e, (inside.ends_inside_lem.firsts_in k l).1), omega (arith, vs_long, ap (λ (v : Ends). v.sink) e, (inside.ends_inside_lem.seconds_in k l).1))
+      (omega (arith, vs_long, ap (λ (v : Ends). v.source) e, (inside.ends_inside.firsts_in k l).1), omega (arith, vs_long, ap (λ (v : Ends). v.sink) e, (inside.ends_inside.seconds_in k l).1))

@@ -60,7 +60,7 @@ pub record AllInside (bytes : List ℕ) : Type 0 where
   pub edges_inside : Inside spec_edge_kind (spec_bounds bytes) bytes (edges_from bytes) (m_of bytes)
   pub vertices_inside : Inside vertex_kind (spec_bounds bytes) bytes (vertices_from bytes) (n_of bytes)
   pub nests_inside : Inside nest_kind (spec_bounds bytes) bytes (nests_from bytes) (b_of bytes)
-  pub ends_inside_lem : Inside ends_kind (spec_bounds bytes) bytes (ends_from bytes) (b_of bytes)
+  pub ends_inside : Inside ends_kind (spec_bounds bytes) bytes (ends_from bytes) (b_of bytes)
 
 -- p is the byte position of a number outside its range, in any section
 pub data NumberOutside (bytes : List ℕ) (p : ℕ) : Type 0 where

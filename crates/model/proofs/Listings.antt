@@ -8,7 +8,7 @@ use Rattle.model.specs.Listings.{Stands, Child, Children, Laid, nothing, copy, L
 use Rattle.model.specs.Laws.{Written}
 use Rattle.model.proofs.Cases.{cases, same_or, less_or, zero_or}
 use Rattle.model.proofs.Chains.{chain_le, chain_eq, chain_join, chain_child, child_pos, above_zero}
-use Rattle.model.proofs.Lists.{In, first, later, is_first_lem, in_none, in_cons, in_left, in_right, in_append, place_in, in_place}
+use Rattle.model.proofs.Lists.{In, first, later, is_first, in_none, in_cons, in_left, in_right, in_append, place_in, in_place}
 use Rattle.model.proofs.Lists.{Rising, empty, more, rising_append, rising_places, places_rising}
 use Rattle.model.proofs.Counts.{count_all, count_one, count_iff, count_places}
 use Rattle.model.proofs.Orders.{sooner_join, sooner_total, branch, before_never, before_join, position_one}
@@ -66,7 +66,7 @@ module _ (sp : Spec) (r : Run) (o : ℕ → Bool) (tree : Falls r.parent) where
   under_laid nothing x h u = absurd (in_none u.1)
   under_laid (copy {i} {ks} {below} {is} {rest} c b d) x h u = cases (in_cons u.1)
       (λ e. cases (chain_child u.2)
-      (λ e'. is_first_lem (e' ∙ e))
+      (λ e'. is_first (e' ∙ e))
       (λ k.
       let z : 0 < k.0 = child_pos tree k.2 k.3 in
       let w = c.all_children k.0 (record { in_run = omega (arith, chain_le tree k.1); not_whole = z; directly = k.2 ∙ e }) in
@@ -156,12 +156,12 @@ module _ (sp : Spec) (r : Run) (o : ℕ → Bool) (tree : Falls r.parent) where
   -- the list with k put where it belongs
   insert : (k : ℕ) {ks : List ℕ} → Rising Soon ks → (¬ (In k ks))
       → (l : List ℕ) × Rising Soon l × ((x : ℕ) → In x l ↔ ((x ≡ k) ⊎ In x ks))
-  insert k empty g = ((k ∷ []), more (λ y h. absurd (in_none h)) empty, λ x. (in_cons, λ a. cases a is_first_lem later))
-  insert k {ks = y ∷ ys} (more f a) g = cases (sooner_total sp r o {s = k} {t = y} (λ e. g (is_first_lem e)))
+  insert k empty g = ((k ∷ []), more (λ y h. absurd (in_none h)) empty, λ x. (in_cons, λ a. cases a is_first later))
+  insert k {ks = y ∷ ys} (more f a) g = cases (sooner_total sp r o {s = k} {t = y} (λ e. g (is_first e)))
       (λ h. (
         (k ∷ (y ∷ ys)),
         more (λ x i. cases (in_cons i) (λ e. subst (λ z. Soon k z) (sym e) h) (λ i'. sooner_join sp r o h (f x i'))) (more f a),
-        λ x. (in_cons, λ i. cases i is_first_lem later),
+        λ x. (in_cons, λ i. cases i is_first later),
       ))
       (λ h.
       let w = insert k a (λ i. g (later i)) in (
@@ -169,11 +169,11 @@ module _ (sp : Spec) (r : Run) (o : ℕ → Bool) (tree : Falls r.parent) where
         more (λ x i. cases ((w.2 x).0 i) (λ e. subst (λ z. Soon y z) (sym e) h) (f x)) w.1,
         λ x. (
           (λ i. cases (in_cons i)
-              (λ e. inr (is_first_lem e))
+              (λ e. inr (is_first e))
               (λ i'. cases ((w.2 x).0 i') inl (λ i''. inr (later i'')))),
           (λ i. cases i
               (λ e. later ((w.2 x).1 (inl e)))
-              (λ i'. cases (in_cons i') is_first_lem (λ i''. later ((w.2 x).1 (inr i''))))),
+              (λ i'. cases (in_cons i') is_first (λ i''. later ((w.2 x).1 (inr i''))))),
         ),
       ))
 

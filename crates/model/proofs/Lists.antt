@@ -11,8 +11,8 @@ pub data In (x : ℕ) : List ℕ → Type 0 where
 pub in_none : {x : ℕ} → In x [] → ⊥
 in_none h = elim h [ ]
 
-pub is_first_lem : {x y : ℕ} {l : List ℕ} → x ≡ y → In x (y ∷ l)
-is_first_lem {x} {y} {l} e = subst (λ z. In z (y ∷ l)) (sym e) first
+pub is_first : {x y : ℕ} {l : List ℕ} → x ≡ y → In x (y ∷ l)
+is_first {x} {y} {l} e = subst (λ z. In z (y ∷ l)) (sym e) first
 
 pub in_cons : {x y : ℕ} {l : List ℕ} → In x (y ∷ l) → (x ≡ y) ⊎ In x l
 in_cons first = inl refl
@@ -35,7 +35,7 @@ in_append (y ∷ l) (later h) = cases (in_append l h) (λ a. inl (later a)) inr
 
 pub place_in : {x : ℕ} (l : List ℕ) (q : ℕ) → Stands l q x → In x l
 place_in [] q h = absurd (omega (arith, h.0))
-place_in (y ∷ l) zero h = is_first_lem (sym h.1)
+place_in (y ∷ l) zero h = is_first (sym h.1)
 place_in (y ∷ l) (suc q) h = later (place_in l q (omega (arith, h.0), h.1))
 
 pub in_place : {x : ℕ} {l : List ℕ} → In x l → (q : ℕ) × Stands l q x

@@ -127,15 +127,15 @@ fork_two_ends = record {
       (test_imp (t_in j 3) (test_chain nest_falls 2 j))))) tt j l z;
 }
 
-no_in_lem : (x : ℕ) → x < 5 → ((y : ℕ) → ¬ (Edge import_spec y x)) ↔ (x ≡ 0)
-no_in_lem x l =
+no_in : (x : ℕ) → x < 5 → ((y : ℕ) → ¬ (Edge import_spec y x)) ↔ (x ≡ 0)
+no_in x l =
     let w = by_test (test_all 5 (λ x. test_and
     (test_imp (test_all 5 (λ y. test_not (t_edge y x))) (test_eq x 0))
     (test_imp (test_eq x 0) (test_all 5 (λ y. test_not (t_edge y x)))))) tt x l in
     ((λ h. w.0 (λ y ly. h y)), λ e y h. w.1 e y (edge_low y x h).0 h)
 
-no_out_lem : (x : ℕ) → x < 5 → ((y : ℕ) → ¬ (Edge import_spec x y)) ↔ (x ≡ 4)
-no_out_lem x l =
+no_out : (x : ℕ) → x < 5 → ((y : ℕ) → ¬ (Edge import_spec x y)) ↔ (x ≡ 4)
+no_out x l =
     let w = by_test (test_all 5 (λ x. test_and
     (test_imp (test_all 5 (λ y. test_not (t_edge x y))) (test_eq x 4))
     (test_imp (test_eq x 4) (test_all 5 (λ y. test_not (t_edge x y)))))) tt x l in
@@ -156,7 +156,7 @@ import_sealed : Sealed import_spec
 import_sealed = record {
   ranges = import_ranges;
   acyclic = λ x c. omega (arith, path_le c.1, (edge_is c.0 x c.2).0);
-  whole_ends_lem = record { only_source = no_in_lem; only_sink = no_out_lem };
+  whole_ends = record { only_source = no_in; only_sink = no_out };
   loops = λ k z l e. subst (KeepsLoopRule import_spec) (one_loop k l e) loop_one;
   forks = λ k z l e. subst (KeepsForkRule import_spec) (one_fork k l e) (record { inner = fork_two; ends = fork_two_ends });
   distinct = λ k z l e. absurd (other_kind k l z e);

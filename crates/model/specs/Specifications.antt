@@ -93,7 +93,7 @@ Distinct s k = s.kind k ≡ s.kind (s.above k) → ¬ (SameDomain s k (s.above k
 pub record Sealed (s : Spec) : Type 0 where
   pub ranges : InRanges s
   pub acyclic : Acyclic s
-  pub whole_ends_lem : HasWholeEnds s
+  pub whole_ends : HasWholeEnds s
   pub loops : (k : ℕ) → 0 < k → k < s.b → s.kind k ≡ 2 → KeepsLoopRule s k
   pub forks : (k : ℕ) → 0 < k → k < s.b → s.kind k ≡ 1 → KeepsForkRule s k
   pub distinct : (k : ℕ) → 0 < k → k < s.b → Distinct s k

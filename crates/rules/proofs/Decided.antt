@@ -62,7 +62,7 @@ module _ {s : Spec} where
 
   both : {f : Fault} → Sealed s → Unsealed s f → ⊥
   both S (cyclic {x} a) = S.acyclic x a.0
-  both S (wrong_ends a b) = b S.whole_ends_lem
+  both S (wrong_ends a b) = b S.whole_ends
   both S (breaks_loop {k} a b c d e f g) = g (S.loops k c d f)
   both S (breaks_fork {k} a b c d e f g) = g (S.forks k c d f)
   both S (same_domain {k} a b c d e f g) = g (S.distinct k c d)

@@ -18,7 +18,7 @@ pub record RowRule (s : Spec) (k : ℕ) (row heads tails : Row) (x : ℕ) : Type
   pub sink_off : ¬ (Holds row (s.sink k))
   pub all_heads : (y : ℕ) → Holds row y → Holds heads y
   pub all_tails : (y : ℕ) → Holds row y → Holds tails y
-  pub edges_stay_lem : EdgesStay s k row
+  pub edges_stay : EdgesStay s k row
   pub connects : (y : ℕ) → Holds row y → Path* (Linked s row) x y
 
 module _ (s : Spec) (k : ℕ) (row heads tails : Row)
@@ -43,9 +43,9 @@ module _ (s : Spec) (k : ℕ) (row heads tails : Row)
     source_out = λ d. r.source_off (thus (s.source k) d);
     sink_out = λ d. r.sink_off (thus (s.sink k) d);
     fork_some_in = λ y l d. (into y).0 (r.all_heads y (thus y d));
-    fork_all_in = λ y z d e. cases ((r.edges_stay_lem z y e).0 (thus y d)) (λ i. inl (so z i)) inr;
+    fork_all_in = λ y z d e. cases ((r.edges_stay z y e).0 (thus y d)) (λ i. inl (so z i)) inr;
     fork_some_out = λ y l d. (out y).0 (r.all_tails y (thus y d));
-    fork_all_out = λ y z d e. cases ((r.edges_stay_lem y z e).1 (thus y d)) (λ i. inl (so z i)) inr;
+    fork_all_out = λ y z d e. cases ((r.edges_stay y z e).1 (thus y d)) (λ i. inl (so z i)) inr;
     connected = λ y z l m d e. any_two x r.connects y z (thus y d) (thus z e);
   }
 
@@ -55,7 +55,7 @@ module _ (s : Spec) (k : ℕ) (row heads tails : Row)
     sink_off = λ i. f.sink_out (so (s.sink k) i);
     all_heads = λ y i. (into y).1 (f.fork_some_in y ((held y).0 i).0 (so y i));
     all_tails = λ y i. (out y).1 (f.fork_some_out y ((held y).0 i).0 (so y i));
-    edges_stay_lem = λ y z e. (
+    edges_stay = λ y z e. (
       (λ i. cases (f.fork_all_in z y (so z i) e) (λ d. inl (thus y d)) inr),
       λ i. cases (f.fork_all_out y z (so y i) e) (λ d. inl (thus z d)) inr,
     );

@@ -26,7 +26,7 @@ but_for (inr q) n = q
 module _ (s : Spec) (k : ℕ) (es : List SpecEdge) (e : Ends) (domain heads tails : Row)
     (ends_are : e ≡ record { source = s.source k; sink = s.sink k })
     (edges_are : s.edge ≡ listed es)
-    (in_domain_lem : (x : ℕ) → Holds domain x ↔ Domain s k x)
+    (in_domain : (x : ℕ) → Holds domain x ↔ Domain s k x)
     (in_heads : HoldsHeads s heads) (in_tails : HoldsTails s tails) where
   abbrev Tests : Type 0
   Tests = Holds domain e.source × Holds domain e.sink × ((x : ℕ) → x < s.n → VertexKeeps domain heads tails e x) × ((i : ℕ) → i < length es → EdgeKeeps domain e (tail_at es i) (head_at es i))
@@ -42,22 +42,22 @@ module _ (s : Spec) (k : ℕ) (es : List SpecEdge) (e : Ends) (domain heads tail
 
   pub loop_of : Tests → KeepsLoopRule s k
   loop_of t = record {
-    source_in = (in_domain_lem (s.source k)).0 (rw source_is at t.0);
-    sink_in = (in_domain_lem (s.sink k)).0 (rw sink_is at t.1);
-    some_in = λ x h d n. (in_heads x).0 (but_for (t.2 x h ((in_domain_lem x).1 d)).0 (rw source_is n));
-    all_in = λ x y d n g. (in_domain_lem y).0 (but_for ((edges_keep t y x g).0 ((in_domain_lem x).1 d)) (rw source_is n));
-    some_out = λ x h d n. (in_tails x).0 (but_for (t.2 x h ((in_domain_lem x).1 d)).1 (rw sink_is n));
-    all_out = λ x y d n g. (in_domain_lem y).0 (but_for ((edges_keep t x y g).1 ((in_domain_lem x).1 d)) (rw sink_is n));
+    source_in = (in_domain (s.source k)).0 (rw source_is at t.0);
+    sink_in = (in_domain (s.sink k)).0 (rw sink_is at t.1);
+    some_in = λ x h d n. (in_heads x).0 (but_for (t.2 x h ((in_domain x).1 d)).0 (rw source_is n));
+    all_in = λ x y d n g. (in_domain y).0 (but_for ((edges_keep t y x g).0 ((in_domain x).1 d)) (rw source_is n));
+    some_out = λ x h d n. (in_tails x).0 (but_for (t.2 x h ((in_domain x).1 d)).1 (rw sink_is n));
+    all_out = λ x y d n g. (in_domain y).0 (but_for ((edges_keep t x y g).1 ((in_domain x).1 d)) (rw sink_is n));
   }
 
   pub tests_of : KeepsLoopRule s k → Tests
   tests_of r = (
-    rw source_is ((in_domain_lem (s.source k)).1 r.source_in),
-    rw sink_is ((in_domain_lem (s.sink k)).1 r.sink_in),
-    λ x h d. (or_else (λ n. (in_heads x).1 (r.some_in x h ((in_domain_lem x).0 d) (rw source_is at n))), or_else (λ n. (in_tails x).1 (r.some_out x h ((in_domain_lem x).0 d) (rw sink_is at n)))),
+    rw source_is ((in_domain (s.source k)).1 r.source_in),
+    rw sink_is ((in_domain (s.sink k)).1 r.sink_in),
+    λ x h d. (or_else (λ n. (in_heads x).1 (r.some_in x h ((in_domain x).0 d) (rw source_is at n))), or_else (λ n. (in_tails x).1 (r.some_out x h ((in_domain x).0 d) (rw sink_is at n)))),
     λ i h. let g : Edge s (tail_at es i) (head_at es i) = subst (λ (f : ℕ → ℕ → _). T (f (tail_at es i) (head_at es i))) (sym edges_are) (at_listed es i h) in (
-      λ d. or_else (λ n. (in_domain_lem (tail_at es i)).1 (r.all_in (head_at es i) (tail_at es i) ((in_domain_lem (head_at es i)).0 d) (rw source_is at n) g)),
-      λ d. or_else (λ n. (in_domain_lem (head_at es i)).1 (r.all_out (tail_at es i) (head_at es i) ((in_domain_lem (tail_at es i)).0 d) (rw sink_is at n) g)),
+      λ d. or_else (λ n. (in_domain (tail_at es i)).1 (r.all_in (head_at es i) (tail_at es i) ((in_domain (head_at es i)).0 d) (rw source_is at n) g)),
+      λ d. or_else (λ n. (in_domain (head_at es i)).1 (r.all_out (tail_at es i) (head_at es i) ((in_domain (tail_at es i)).0 d) (rw sink_is at n) g)),
     ),
   )
 

@@ -12,7 +12,7 @@ pub sealed_of : (s : Spec) (k : ℕ) → InRanges s → Acyclic s → HasWholeEn
 sealed_of s k r a w p h = record {
   ranges = r;
   acyclic = a;
-  whole_ends_lem = w;
+  whole_ends = w;
   loops = λ j z l e. (p j z (omega (arith, h))).keeps.as_loop e;
   forks = λ j z l e. (p j z (omega (arith, h))).keeps.as_fork e;
   distinct = λ j z l. (p j z (omega (arith, h))).apart;

@@ -1,4 +1,4 @@
-use Rattle.conformance.specs.Nonconforming.{astray, repeated, short_of_lem}
+use Rattle.conformance.specs.Nonconforming.{astray, repeated, short_of}
 use Rattle.conformance.proofs.Assembly.{placed_of}
 use Rattle.conformance.proofs.trial.Trial.check_steps.Goals as goal
 
@@ -9,7 +9,7 @@ pub returns-in-Some-repeated : goal.returns-in-Some-repeated
 returns-in-Some-repeated c = repeated c.requires.1.0 c.requires.1.1 c.in_default.ensures c.in-Some-repeated.ensures
 
 pub returns-in-Some-short_of : goal.returns-in-Some-short_of
-returns-in-Some-short_of c = short_of_lem c.requires.1.0 c.requires.1.1 c.in_default.ensures c.in_default-repeated.ensures.0 c.in-Some-short_of.ensures
+returns-in-Some-short_of c = short_of c.requires.1.0 c.requires.1.1 c.in_default.ensures c.in_default-repeated.ensures.0 c.in-Some-short_of.ensures
 
 pub returns : goal.returns
 returns c = placed_of c.args.self c.requires.0 c.requires.1.0 c.requires.1.1 c.in_default.ensures c.in_default-repeated.ensures.0 c.in_default-short_of.ensures

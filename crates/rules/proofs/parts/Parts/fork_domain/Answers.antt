@@ -42,7 +42,7 @@ returns-then-edges_stay c =
             sink_off = c.if-has-2.ensures.1;
             all_heads = c.if-not-within.ensures.0 tt;
             all_tails = c.if-not-within-2.ensures.0 tt;
-            edges_stay_lem = c.if-edges_stay.ensures.0 tt;
+            edges_stay = c.if-edges_stay.ensures.0 tt;
             connects = c.connects.ensures.0 t;
           })),
       λ f. c.connects.ensures.1 (l.1 f).connects,
@@ -51,5 +51,5 @@ returns-then-edges_stay c =
 pub returns-else-edges_stay : goal.returns-else-edges_stay
 returns-else-edges_stay c = (
   (λ t. absurd (subst (λ (b : Bool). T b) c.if-edges_stay.false t)),
-  λ f. c.edges_stay.ensures.1 ((keeps c.args.self.now c.args.k _ _ _ c.requires.k_nonzero.0 c.domain-domain.ensures c.requires.holds_heads c.requires.holds_tails c.in-Some.x c.in-Some.ensures.0).1 f).edges_stay_lem,
+  λ f. c.edges_stay.ensures.1 ((keeps c.args.self.now c.args.k _ _ _ c.requires.k_nonzero.0 c.domain-domain.ensures c.requires.holds_heads c.requires.holds_tails c.in-Some.x c.in-Some.ensures.0).1 f).edges_stay,
 )
