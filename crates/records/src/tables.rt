@@ -31,15 +31,14 @@ impl<T: Copy, const N: usize> Table<T, N> {
         }
     }
 
-    /// A table of one item.
+    /// A table of one item, or of none where there is no room for it.
     pub fn only(item: T) -> Self
-        requires { 0 < N }
-        ensures { take result.len result.items ≡ item ∷ [] }
+        ensures one { 0 < N → take result.len result.items ≡ item ∷ [] }
+        ensures none { N ≡ 0 → take result.len result.items ≡ [] }
     {
-        Table {
-            items: [item; N],
-            len: 1,
-        }
+        let mut table = Table::new(item);
+        let _ = table.push(item);
+        table
     }
 
     /// How many items the table holds.
