@@ -30,6 +30,7 @@ use nesting::sealed::SealedSpecification;
 use nesting::sealing::read_and_seal;
 use rules::faults::NestingFault;
 use std::alloc::Global;
+use std::process::ExitCode;
 use std::{env, fs, io};
 
 /// What the arguments ask.
@@ -227,9 +228,10 @@ fn tell_reach(rt: &HostRuntime, name: &str, kind: Kind, question: Question) -> R
     }
 }
 
-fn main(rt: HostRuntime) -> Result<(), Failure> {
-    match what_is_asked(&rt) {
-        Ok(Some(Asked::Check { specification, run })) => check(&rt, specification.as_str(), &run),
+/// Does what the arguments ask.
+fn answer(rt: &HostRuntime) -> Result<(), Failure> {
+    match what_is_asked(rt) {
+        Ok(Some(Asked::Check { specification, run })) => check(rt, specification.as_str(), &run),
         Ok(
             Some(
                 Asked::Reach {
@@ -238,7 +240,15 @@ fn main(rt: HostRuntime) -> Result<(), Failure> {
                     question,
                 },
             ),
-        ) => tell_reach(&rt, specification.as_str(), kind, question),
-        _ => usage(&rt),
+        ) => tell_reach(rt, specification.as_str(), kind, question),
+        _ => usage(rt),
+    }
+}
+
+/// Ends with status 1 on a failure. What there is to say of one was written when it came, so nothing is added here.
+fn main(rt: HostRuntime) -> ExitCode {
+    match answer(&rt) {
+        Ok(()) => ExitCode::SUCCESS,
+        Err(_) => ExitCode::FAILURE,
     }
 }
