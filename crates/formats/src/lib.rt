@@ -10,6 +10,6 @@ pub mod laws;
 pub mod opening;
 pub mod reading;
 pub mod run_file;
-mod sections;
+pub mod sections;
 mod spec_file;
 pub mod specification;

@@ -18,7 +18,7 @@ pub(crate) fn word_at(bytes: &[u8], at: usize) -> u16
 }
 
 /// A section of one kind of record, read where it lies: `count` records from byte `base`.
-pub(crate) struct Section<'a, R> {
+pub struct Section<'a, R> {
     bytes: &'a [u8],
     base: usize,
     count: u16,
@@ -82,7 +82,7 @@ impl<'a, R> Section<'a, R> {
     }
 
     /// The byte position of the first record that is not above the record before it.
-    pub(crate) fn unordered(self) -> Option<usize>
+    pub fn unordered(self) -> Option<usize>
         ensures { MatchOption result (Ascending self.entry.bytes.now self.entry.base self.entry.count) (Lowest (Unordered self.entry.bytes.now self.entry.base self.entry.count)) }
     {
         for i in 1..self.count {
@@ -96,7 +96,7 @@ impl<'a, R> Section<'a, R> {
 
 impl<'a, R: Record> Section<'a, R> {
     /// Whether a section of this kind may have `size` records.
-    pub(crate) fn may_have(size: u16) -> bool
+    pub fn may_have(size: u16) -> bool
         ensures { T result ↔ Fits R.Record.kind size }
     {
         let (floor, ceiling) = R::limits();
@@ -137,7 +137,7 @@ impl<'a, R: Record> Section<'a, R> {
     }
 
     /// The lowest byte position of a number that lies outside its range.
-    pub(crate) fn outside(self, bounds: Bounds) -> Option<usize>
+    pub fn outside(self, bounds: Bounds) -> Option<usize>
         ensures { MatchOption result (Inside R.Record.kind bounds self.entry.bytes.now self.entry.base self.entry.count) (Lowest (Outside R.Record.kind bounds self.entry.bytes.now self.entry.base self.entry.count)) }
     {
         for k in 0..2 * self.count as u32 {

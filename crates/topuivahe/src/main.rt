@@ -132,16 +132,17 @@ fn bytes_of(rt: &HostRuntime, name: &str) -> Result<Vec<u8>, Failure> {
     }
 }
 
-/// Prints an account, and says whether what it is of was accepted.
+/// Prints an account of the file `name`, and says whether what it is of was accepted.
 fn printed(
     rt: &HostRuntime,
+    name: &str,
     account: Result<String, Failure>,
     accepted: bool,
 ) -> Result<(), Failure> {
     match account {
         Ok(text) => rt.print(text)?,
         Err(_) => {
-            eprintln!(rt; "topuivahe: no memory for the account")?;
+            eprintln!(rt; "topuivahe: no memory for the account of {name}")?;
             return Err(Failure::Memory);
         }
     }
@@ -178,7 +179,7 @@ fn check_run(
     let bytes = bytes_of(rt, name)?;
     let bytes = bytes.as_slice();
     let (account, accepted) = conforming(rt.alloc(), specification, sealed, File { name, bytes });
-    printed(rt, account, accepted)
+    printed(rt, name, account, accepted)
 }
 
 fn check(rt: &HostRuntime, name: &str, run: &Option<String>) -> Result<(), Failure> {
@@ -192,7 +193,7 @@ fn check(rt: &HostRuntime, name: &str, run: &Option<String>) -> Result<(), Failu
         (Ok(()), Some(run)) => check_run(rt, file, &sealed, run.as_str()),
         _ => {
             let account = report(rt.alloc(), file, &specification, verdict);
-            printed(rt, account, verdict.is_ok())
+            printed(rt, name, account, verdict.is_ok())
         }
     }
 }
@@ -218,10 +219,11 @@ fn tell_reach(rt: &HostRuntime, name: &str, kind: Kind, question: Question) -> R
     match read_and_seal(bytes, &mut specification, &mut sealed) {
         Ok(()) => {
             let (text, accepted) = reach(rt.alloc(), &sealed, kind, question)?;
-            printed(rt, Ok(text), accepted)
+            printed(rt, name, Ok(text), accepted)
         }
         Err(fault) => printed(
             rt,
+            name,
             not_sealed(rt.alloc(), bytes, &specification, fault),
             false,
         ),
