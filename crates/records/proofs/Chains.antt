@@ -1,5 +1,5 @@
 -- What chains of iterators tell: over a range of the numbers in it, over a slice of its items.
-use Rattle.std.proofs.Common.{◌≡◌, ℕ, ◌+◌, ◌-◌, ◌<◌, ◌≤◌, refl, subst, sym, ◌∙◌, arith, Bool, true, false, T, ◌↔◌, List, [], ◌∷◌, length, get_or, MatchBool, MatchOption, Option, Bor}
+use Rattle.std.proofs.Common.{◌≡◌, ℕ, ◌+◌, ◌-◌, ◌<◌, ◌≤◌, refl, subst, arith, Bool, true, false, T, ◌↔◌, List, [], ◌∷◌, length, get_or, MatchBool, MatchOption, Option, Bor}
 use Rattle.std.specs.Bool.{⊤}
 use Rattle.std.specs.Slice.Iter.{iter_rest}
 use Rattle.std.specs.declared.slice.Iter.{Iter}

@@ -1,12 +1,13 @@
-ghost use Rattle.std.specs.Prelude.{◌≡◌, ◌<◌, MatchOption};
-ghost use Rattle.records.specs.Blocks.{kind_number};
+ghost use Rattle.std.specs.Prelude.{◌≡◌, ◌<◌, MatchOption, MatchResult, Some};
+ghost use Rattle.records.specs.Blocks.{kind_number, kind_word};
 ghost use Rattle.records.specs.Kinds.{copy_kind, ends_kind, nest_kind, run_edge_kind, spec_edge_kind, step_kind, vertex_kind};
 ghost use Rattle.std.proofs.Common.{rules};
 
 use crate::record::{Bounds, Record, Span};
+use std::fmt;
 
 /// An edge of a specification.
-#[derive(Clone, Copy)]
+#[derive(Clone, Copy, PartialEq, Eq, PartialOrd, Ord)]
 pub struct SpecEdge {
     pub tail: u16,
     pub head: u16,
@@ -51,7 +52,7 @@ impl Record for SpecEdge {
 }
 
 /// A vertex: its home block and its tool code.
-#[derive(Clone, Copy)]
+#[derive(Clone, Copy, PartialEq, Eq, PartialOrd, Ord)]
 pub struct Vertex {
     pub home: u16,
     pub tool: u16,
@@ -96,7 +97,7 @@ impl Record for Vertex {
 }
 
 /// A block: its parent, and its kind as the file numbers it (0 the whole, 1 a fork, 2 a loop).
-#[derive(Clone, Copy)]
+#[derive(Clone, Copy, PartialEq, Eq, PartialOrd, Ord)]
 pub struct Nest {
     pub parent: u16,
     pub kind: u16,
@@ -141,11 +142,42 @@ impl Record for Nest {
 }
 
 /// What a block is.
-#[derive(Clone, Copy)]
+#[derive(Clone, Copy, PartialEq, Eq)]
 pub enum BlockKind {
     Whole,
     Fork,
     Loop,
+}
+
+impl fmt::Display for BlockKind {
+    ghost output = { λ k. Some (kind_word k) };
+
+    fn fmt<W: fmt::Write>(&self, f: &mut fmt::Formatter<W>) -> fmt::Result {
+        f.pad(match self {
+            BlockKind::Whole => "whole",
+            BlockKind::Fork => "fork",
+            BlockKind::Loop => "loop",
+        })
+    }
+}
+
+/// A number that no kind of block has.
+#[derive(Clone, Copy, PartialEq, Eq)]
+pub struct NoKind(pub u16);
+
+impl TryFrom<u16> for BlockKind {
+    type Error = NoKind;
+
+    fn try_from(number: u16) -> Result<Self, NoKind>
+        ensures { MatchResult result (λ k. number ≡ kind_number k) (λ e. (2 < number) × (e.0 ≡ number)) }
+    {
+        match number {
+            0 => Ok(BlockKind::Whole),
+            1 => Ok(BlockKind::Fork),
+            2 => Ok(BlockKind::Loop),
+            _ => Err(NoKind(number)),
+        }
+    }
 }
 
 impl Nest {
@@ -153,17 +185,12 @@ impl Nest {
     pub fn block_kind(&self) -> Option<BlockKind>
         ensures { MatchOption result (2 < self.now.kind) (λ k. self.now.kind ≡ kind_number k) }
     {
-        match self.kind {
-            0 => Some(BlockKind::Whole),
-            1 => Some(BlockKind::Fork),
-            2 => Some(BlockKind::Loop),
-            _ => None,
-        }
+        BlockKind::try_from(self.kind).ok()
     }
 }
 
 /// A block's source and sink.
-#[derive(Clone, Copy)]
+#[derive(Clone, Copy, PartialEq, Eq, PartialOrd, Ord)]
 pub struct Ends {
     pub source: u16,
     pub sink: u16,
@@ -208,7 +235,7 @@ impl Record for Ends {
 }
 
 /// A copy, one execution of a block: its parent copy and its block.
-#[derive(Clone, Copy)]
+#[derive(Clone, Copy, PartialEq, Eq, PartialOrd, Ord)]
 pub struct RunCopy {
     pub parent: u16,
     pub block: u16,
@@ -253,7 +280,7 @@ impl Record for RunCopy {
 }
 
 /// A step of a run: the copy that it belongs to and the vertex that it executes.
-#[derive(Clone, Copy)]
+#[derive(Clone, Copy, PartialEq, Eq, PartialOrd, Ord)]
 pub struct Step {
     pub context: u16,
     pub origin: u16,
@@ -298,7 +325,7 @@ impl Record for Step {
 }
 
 /// An edge of a run.
-#[derive(Clone, Copy)]
+#[derive(Clone, Copy, PartialEq, Eq, PartialOrd, Ord)]
 pub struct RunEdge {
     pub tail: u16,
     pub head: u16,
