@@ -6,57 +6,41 @@ ghost use Rattle.model.specs.Laws.{PathLaw, OrderLaw, ListingLaw, OneLabelLaw, A
 ghost use Rattle.model.specs.TwoRound.{ImportLaw};
 
 /// A path of the run's edges leads from one step to another exactly when the relation of their contexts and origins holds.
-pub fn path_law_stands() -> u8
+pub fn path_law_stands()
     ensures { PathLaw }
-{
-    0
-}
+{}
 
 /// Each order is a strict total order of the copies, and positions go as the order.
-pub fn order_law_stands() -> u8
+pub fn order_law_stands()
     ensures { OrderLaw }
-{
-    0
-}
+{}
 
 /// The position of a copy is its place in the list in which each copy is directly followed by all that lies under it.
-pub fn listing_law_stands() -> u8
+pub fn listing_law_stands()
     ensures { ListingLaw }
-{
-    0
-}
+{}
 
 /// Every step has one label, two steps have two, and the question rule on two labels says yes exactly when a path leads from step to step.
-pub fn label_law_stands() -> u8
+pub fn label_law_stands()
     ensures { (OneLabelLaw) × ((ApartLaw) × (LabelLaw)) }
-{
-    0
-}
+{}
 
 /// The same for paths of one or more edges, with a step itself left out.
-pub fn after_law_stands() -> u8
+pub fn after_law_stands()
     ensures { AfterLaw }
-{
-    0
-}
+{}
 
 /// The question rule comes to one answer, with its counts, and that is yes exactly when a path leads from step to step.
-pub fn answer_law_stands() -> u8
+pub fn answer_law_stands()
     ensures { (RuleLaw) × (AnswerLaw) }
-{
-    0
-}
+{}
 
 /// Two steps and their counterparts in a run that grew get one answer.
-pub fn growth_law_stands() -> u8
+pub fn growth_law_stands()
     ensures { GrowthLaw }
-{
-    0
-}
+{}
 
 /// The worked example is sealed, conforms, and has the orders, labels and answers stated.
-pub fn import_law_stands() -> u8
+pub fn import_law_stands()
     ensures { ImportLaw }
-{
-    0
-}
+{}
