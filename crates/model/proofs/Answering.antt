@@ -2,7 +2,8 @@
 use Rattle.std.proofs.Common.{◌≡◌, ℕ, ◌<◌, Bool, true, false, T, ◌⊎◌, ◌↔◌, refl, inl, inr, arith}
 use Rattle.model.specs.Labels.{Label, Other, Yes, by_equal, by_loop, by_reach, Answer, equal, forked, looped, asked}
 use Rattle.model.specs.Laws.{Answered}
-use Rattle.model.proofs.Cases.{cases, same_or, less_or}
+use Rattle.std.proofs.lemmas.Bool.{cases_eq, cases_lt}
+use Rattle.model.proofs.Cases.{cases}
 use Rattle.model.proofs.Tests.{test_lt}
 
 bool_ext : (a b : Bool) → (T a → T b) → (T b → T a) → a ≡ b
@@ -54,14 +55,14 @@ one_answer (asked d n m h) (looped d' n' x' h') = absurd (m x')
 one_answer {y = y} {y' = y'} (asked d n m h) (asked d' n' m' h') = (bool_ext y y' (λ t. h'.1 (h.0 t)) (λ t. h.1 (h'.0 t)), refl, refl)
 
 other_or : (a a' b b' : ℕ) → Other a a' b b' ⊎ (¬ (Other a a' b b'))
-other_or a a' b b' = cases (less_or a a')
-    (λ l. cases (less_or b' b) (λ m. inl (inl (l, m))) (λ m. inr (λ x. omega arith)))
-    (λ l. cases (less_or a' a)
-    (λ l'. cases (less_or b b') (λ m. inl (inr (l', m))) (λ m. inr (λ x. omega arith)))
+other_or a a' b b' = cases (cases_lt a a')
+    (λ l. cases (cases_lt b' b) (λ m. inl (inl (l, m))) (λ m. inr (λ x. omega arith)))
+    (λ l. cases (cases_lt a' a)
+    (λ l'. cases (cases_lt b b') (λ m. inl (inr (l', m))) (λ m. inr (λ x. omega arith)))
     (λ l'. inr (λ x. omega arith)))
 
 pub answered : (A B : Label) (reach : Bool) → Answered A B reach
-answered A B reach = cases (same_or A.q1 B.q1)
+answered A B reach = cases (cases_eq A.q1 B.q1)
     (λ e. only (equal e truly))
     (λ d. cases (other_or A.q1 B.q1 A.q2 B.q2)
     (λ x. only (forked d x))
@@ -88,8 +89,8 @@ pub record As (A B A' B' : Label) : Type 0 where
   pub as_right : B.vertex ≡ B'.vertex
 
 alike_eq : (p q p' q' : ℕ) → Alike p q p' q' → p ≡ q → p' ≡ q'
-alike_eq p q p' q' a e = cases (less_or p' q') (λ l. absurd (omega (arith, a.0.1 l))) λ l.
-    cases (less_or q' p') (λ m. absurd (omega (arith, a.1.1 m))) (λ m. omega arith)
+alike_eq p q p' q' a e = cases (cases_lt p' q') (λ l. absurd (omega (arith, a.0.1 l))) λ l.
+    cases (cases_lt q' p') (λ m. absurd (omega (arith, a.1.1 m))) (λ m. omega arith)
 
 alike_back : {p q p' q' : ℕ} → Alike p q p' q' → Alike p' q' p q
 alike_back a = ((a.0.1, a.0.0), (a.1.1, a.1.0))

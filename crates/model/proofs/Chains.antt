@@ -1,7 +1,8 @@
 -- Chains of parents, of blocks and of copies alike: what stands in one chain, where two chains split, and how far from 0 a number lies.
 use Rattle.std.proofs.Common.{◌≡◌, ℕ, zero, suc, ◌<◌, ◌≤◌, ◌≢◌, ◌⊎◌, sym, refl, ap, ◌∙◌, inl, inr, arith}
 use Rattle.model.specs.Forests.{Chain, stop, up, Falls, Split, Depth, at_zero, under}
-use Rattle.model.proofs.Cases.{cases, same_or, zero_or}
+use Rattle.std.proofs.lemmas.Bool.{cases_eq}
+use Rattle.model.proofs.Cases.{cases, zero_or}
 
 pub chain_join : {p : ℕ → ℕ} {i j k : ℕ} → Chain p i j → Chain p j k → Chain p i k
 chain_join stop d = d
@@ -28,7 +29,7 @@ comparable (up c) (up d) = comparable c d
 -- the child of j on the way from i to j
 pub chain_child : {p : ℕ → ℕ} {i j : ℕ} → Chain p i j → (i ≡ j) ⊎ ((k : ℕ) × Chain p i k × (p k ≡ j) × (k ≢ j))
 chain_child stop = inl refl
-chain_child {p} {i} {j} (up c) = go (same_or i j) (chain_child c)
+chain_child {p} {i} {j} (up c) = go (cases_eq i j) (chain_child c)
   where
     go : (i ≡ j) ⊎ (i ≢ j) → (p i ≡ j) ⊎ ((k : ℕ) × Chain p (p i) k × (p k ≡ j) × (k ≢ j))
         → (i ≡ j) ⊎ ((k : ℕ) × Chain p i k × (p k ≡ j) × (k ≢ j))
@@ -86,7 +87,7 @@ module _ {p : ℕ → ℕ} (f : Falls p) where
       go : (m i : ℕ) → i ≤ m → Chain p i j ⊎ (¬ (Chain p i j))
       go m zero h = cases (zero_or j) (λ e. inl (chain_eq (sym e))) (λ z. inr (λ c. omega (arith, chain_le c)))
       go zero (suc i) h = absurd (omega arith)
-      go (suc m) (suc i) h = cases (same_or (suc i) j)
+      go (suc m) (suc i) h = cases (cases_eq (suc i) j)
           (λ e. inl (chain_eq e))
           (λ d. cases (go m (p (suc i)) (omega (arith, f.falls (suc i) (omega arith))))
           (λ c. inl (up c))

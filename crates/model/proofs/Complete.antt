@@ -7,7 +7,8 @@ use Rattle.model.specs.Specifications.{Spec, Edge, Domain, KeepsLoopRule, Sealed
 use Rattle.model.specs.Runs.{Run, Placed, Conforms, Mate, Next, Firsts, Derived, Farthest}
 use Rattle.model.specs.Relating.{Apart, Earlier, Rel}
 use Rattle.model.specs.Laws.{Listed}
-use Rattle.model.proofs.Cases.{cases, same_or, less_or}
+use Rattle.std.proofs.lemmas.Bool.{cases_eq, cases_lt}
+use Rattle.model.proofs.Cases.{cases}
 use Rattle.model.proofs.Chains.{over, chain_le, chain_parent, chain_dec, chain_join, above_split, one_left, one_right, split_flip}
 use Rattle.model.proofs.Paths.{path_join, path_one, path_last, path_map, walk}
 use Rattle.model.proofs.Sealing.{no_cycle, enters, from_source, to_sink, no_circle, farthest_of, far_chain}
@@ -118,7 +119,7 @@ module _ {s : Spec} {r : Run} (S : Sealed s) (P : Placed s r) where
       ⊎ ((r.origin w ≡ s.source (r.block t)) × Firsts s r (r.context w) t)
 
   inside : {w t : ℕ} → w < r.v → Chain r.parent (r.context w) t → 0 < t → s.kind (r.block t) ≡ 2 → Inside w t
-  inside {w} {t} hw c z k = cases (same_or (r.origin w) (s.source (r.block t))) at_source elsewhere
+  inside {w} {t} hw c z k = cases (cases_eq (r.origin w) (s.source (r.block t))) at_source elsewhere
     where
       L : KeepsLoopRule s (r.block t)
       L = loop_of S P (chain_range nest P (P.context_range w hw) c) z k
@@ -128,7 +129,7 @@ module _ {s : Spec} {r : Run} (S : Sealed s) (P : Placed s r) where
 
       -- the source of a loop is the source of every loop inside that holds it: an edge into it would close a cycle
       too : r.origin w ≡ s.source (r.block t) → (T : Turn s r (r.context w) t) → r.origin w ≡ s.source (r.block T.q)
-      too e T = cases (same_or (r.origin w) (s.source (r.block T.q))) (λ x. x) λ d.
+      too e T = cases (cases_eq (r.origin w) (s.source (r.block T.q))) (λ x. x) λ d.
           let g = (turn_rule T).some_in (r.origin w) (P.origin_range w hw) (copy_in nest P hw T.turn_in) d in
           let g_in : Domain s (r.block T.q) g.0 = (turn_rule T).all_in (r.origin w) g.0 (copy_in nest P hw T.turn_in) d g.1 in
           let g_in' : Domain s (r.block t) g.0 = chain_join g_in (maps nest P T.turn_next.mate.exists (up T.turn_above)) in
@@ -190,7 +191,7 @@ module _ {s : Spec} {r : Run} (S : Sealed s) (P : Placed s r) where
       sink_range = S.ranges.sink_range (r.block E.et) (copy_range nest P ht E.esplit.right_pos)
 
       turn_before : (p : ℕ) → Next r p E.et → r.origin w ≡ s.source (r.block E.et) → Firsts s r (r.context w) E.et → BeforeIt u w
-      turn_before p n e f = cases (same_or E.es p) own_turn later_turn
+      turn_before p n e f = cases (cases_eq E.es p) own_turn later_turn
         where
           sink_in : Domain s (r.block p) (s.sink (r.block E.et))
           sink_in = subst (λ k. Domain s k (s.sink (r.block E.et))) n.mate.one_block L.sink_in
@@ -213,7 +214,7 @@ module _ {s : Spec} {r : Run} (S : Sealed s) (P : Placed s r) where
           later_turn : E.es ≢ p → BeforeIt u w
           later_turn d =
               let v = descend S P p (s.sink (r.block E.et)) hp sink_range sink_in in
-              let l : E.es < p = cases (less_or E.es p) (λ x. x)
+              let l : E.es < p = cases (cases_lt E.es p) (λ x. x)
               (λ x. absurd (omega (arith, E.eless, n.none_between E.es mp (omega arith)))) in
               let m : Mate r E.es p = mate_turn hp (next_pos nest P n) mp in
               (v.0, back_edge hw c k f n e v.1, inl (mates_earlier E.esplit.left v.1.land_below E.esplit.left_pos m l E.eloop))
@@ -284,7 +285,7 @@ module _ {s : Spec} {r : Run} (S : Sealed s) (P : Placed s r) where
           near : ¬ (Apart r (r.context u) (r.context v.0))
           near A = cases (above_split P.tree A.split v.2.land_below)
               (λ c. cases (chain_parent c)
-              (λ q. cases (same_or A.s T.q) (λ x. not_in A.s x A.split.left) (beside A q))
+              (λ q. cases (cases_eq A.s T.q) (λ x. not_in A.s x A.split.left) (beside A q))
               (λ c'. f (apart_as A A.split.left (over T.turn_in n.mate.one_parent c'))))
               (λ c. f (mates_apart c T.turn_in (next_pos nest P n) n.mate (λ x. omega (arith, x, n.later))))
 
@@ -324,7 +325,7 @@ module _ {s : Spec} {r : Run} (S : Sealed s) (P : Placed s r) where
   complete : {u w : ℕ} → u < r.v → w < r.v → Rel s r u w → Path* (Derived s r) u w
   complete {u} {w} hu hw R =
       let z = walk (Derived s r) (λ x. (x < r.v) × Rel s r u x) (λ x. x ≡ u) r.v no_run_cycle (λ x a. a.0)
-      (λ x a. cases (same_or x u) inl (λ d.
+      (λ x a. cases (cases_eq x u) inl (λ d.
       let b = predecessor hu a.0 (λ e. d (sym e)) a.1 in
       inr (b.0, b.1, (b.1.tail_range, b.2))))
       w (hw, R) in

@@ -4,7 +4,8 @@ use Rattle.model.specs.Forests.{Chain, stop, up, Falls, Split}
 use Rattle.model.specs.Specifications.{Spec, Domain}
 use Rattle.model.specs.Runs.{Run, Placed, Conforms, Derived, Mate, Next}
 use Rattle.model.specs.Relating.{Apart, Earlier}
-use Rattle.model.proofs.Cases.{cases, same_or, zero_or}
+use Rattle.std.proofs.lemmas.Bool.{cases_eq}
+use Rattle.model.proofs.Cases.{cases, zero_or}
 use Rattle.model.proofs.Chains.{chain_le, chain_parent, chain_join, comparable, split_self, split_flip}
 
 -- a run that conforms is placed
@@ -140,7 +141,7 @@ module _ {s : Spec} {r : Run} (N : Falls s.above) (P : Placed s r) where
 
       siblings : {q q' : ℕ} → 0 < q → Chain r.parent i q → Chain r.parent j q' → r.block q ≡ r.block q'
           → r.parent q ≡ r.parent q' → (q ≡ q') ⊎ Apart r i j
-      siblings {q} {q'} z c d e x = cases (same_or q q') inl λ y.
+      siblings {q} {q'} z c d e x = cases (cases_eq q q') inl λ y.
           let z' : 0 < q' = pos_of_block (omega (arith, block_pos z (chain_range hi c), e)) in
           inr (record {
             s = q;

@@ -1,7 +1,8 @@
 -- Counting: how many of the numbers below n have a property. Positions, the places of a list and the walks that end all rest on it.
 use Rattle.std.proofs.Common.{◌≡◌, ℕ, zero, suc, ◌<◌, ◌≤◌, Bool, true, false, T, ◌≢◌, ◌⊎◌, sym, ap, ◌∙◌, subst, inl, inr, arith}
 use Rattle.model.specs.Orders.{Count, none, hit, miss}
-use Rattle.model.proofs.Cases.{cases, same_or}
+use Rattle.std.proofs.lemmas.Bool.{cases_eq}
+use Rattle.model.proofs.Cases.{cases}
 
 -- what can be told apart can be counted
 pub count_some : (P : ℕ → Type 0) → ((j : ℕ) → P j ⊎ (¬ (P j))) → (n : ℕ) → (q : ℕ) × Count P n q
@@ -30,12 +31,12 @@ count_one a b = omega (arith, count_le (λ j x. x) a b, count_le (λ j x. x) b a
 -- where P gives Q and some x is Q and not P, there are fewer P than Q
 pub count_lt : {P Q : ℕ → Type 0} {n q q' : ℕ} (x : ℕ) → ((j : ℕ) → P j → Q j) → x < n → (¬ (P x)) → Q x → Count P n q → Count Q n q' → q < q'
 count_lt x f l g h none none = absurd (omega arith)
-count_lt {n = suc n} x f l g h (hit a c) (hit b d) = cases (same_or x n)
+count_lt {n = suc n} x f l g h (hit a c) (hit b d) = cases (cases_eq x n)
     (λ e. absurd (g (rw (← e) at a)))
     (λ e. omega (arith, count_lt x f (omega arith) g h c d))
 count_lt {n = suc n} x f l g h (hit a c) (miss b d) = absurd (b (f n a))
 count_lt x f l g h (miss a c) (hit b d) = omega (arith, count_le f c d)
-count_lt {n = suc n} x f l g h (miss a c) (miss b d) = cases (same_or x n)
+count_lt {n = suc n} x f l g h (miss a c) (miss b d) = cases (cases_eq x n)
     (λ e. absurd (b (rw e at h)))
     (λ e. count_lt x f (omega arith) g h c d)
 
@@ -48,10 +49,10 @@ count_iff {n = suc n} f g (miss p c) = miss (λ x. p (g n (omega arith) x)) (cou
 -- one number more
 count_add : {P : ℕ → Type 0} {n q : ℕ} (x : ℕ) → x < n → (¬ (P x)) → Count P n q → Count (λ j. (j ≡ x) ⊎ P j) n (suc q)
 count_add x l g none = absurd (omega arith)
-count_add {P} {n = suc n} x l g (hit p c) = cases (same_or n x)
+count_add {P} {n = suc n} x l g (hit p c) = cases (cases_eq n x)
     (λ e. absurd (g (subst P e p)))
     (λ d. hit (inr p) (count_add x (omega arith) g c))
-count_add {P} {n = suc n} x l g (miss p c) = cases (same_or n x)
+count_add {P} {n = suc n} x l g (miss p c) = cases (cases_eq n x)
     (λ e. hit (inl e) (count_iff (λ j l a. inr a) (λ j l a. cases a (λ e'. absurd (omega arith)) (λ b. b)) c))
     (λ d. miss (λ a. cases a d p) (count_add x (omega arith) g c))
 
@@ -61,7 +62,7 @@ pub count_places : (f : ℕ → ℕ) (n q : ℕ) → ((p : ℕ) → p < q → f 
 count_places f n zero r d = count_empty n (λ j h. omega (arith, h.1))
 count_places f n (suc q) r d = count_iff
     (λ j l a. cases a (λ e. (q, omega arith, sym e)) (λ h. (h.0, omega (arith, h.1), h.2)))
-    (λ j l h. cases (same_or h.0 q) (λ e. inl (sym h.2 ∙ ap f e)) (λ g. inr (h.0, omega (arith, h.1), h.2)))
+    (λ j l h. cases (cases_eq h.0 q) (λ e. inl (sym h.2 ∙ ap f e)) (λ g. inr (h.0, omega (arith, h.1), h.2)))
     (count_add (f q) (r q (omega arith)) (λ h. d h.0 q h.1 (omega arith) h.2)
     (count_places f n q (λ p l. r p (omega arith)) (λ p p' l l'. d p p' l (omega arith))))
 

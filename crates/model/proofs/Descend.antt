@@ -5,7 +5,8 @@ use Rattle.model.specs.Forests.{Chain, up, Falls}
 use Rattle.model.specs.Specifications.{Spec, Domain, Sealed}
 use Rattle.model.specs.Runs.{Run, Placed, Last, Lasts}
 use Rattle.model.specs.Relating.{Apart, Earlier}
-use Rattle.model.proofs.Cases.{cases, same_or}
+use Rattle.std.proofs.lemmas.Bool.{cases_eq}
+use Rattle.model.proofs.Cases.{cases}
 use Rattle.model.proofs.Chains.{chain_le, chain_eq, chain_parent, chain_child, chain_join, child_pos, comparable, no_rung_twice, split_self, split_right, above_split}
 use Rattle.model.proofs.Sealing.{in_range}
 use Rattle.model.proofs.Copies.{chain_range, mates_earlier}
@@ -29,7 +30,7 @@ module _ {s : Spec} {r : Run} (S : Sealed s) (P : Placed s r) where
     land_origin = l.land_origin;
     land_below = chain_join l.land_below (up (chain_eq q));
     land_lasts = λ t a b g k. cases (comparable a l.land_below)
-        (λ c. cases (same_or t e) (λ x. rw (← x) at (f (rw x at k))) (λ x. l.land_lasts t a c x k))
+        (λ c. cases (cases_eq t e) (λ x. rw (← x) at (f (rw x at k))) (λ x. l.land_lasts t a c x k))
         (λ c. cases (chain_parent c)
         (λ x. rw x at (f (rw (← x) at k)))
         (λ x. absurd (g (omega (arith, chain_le P.tree x, chain_le P.tree b, q)))));
@@ -146,7 +147,7 @@ module _ {s : Spec} {r : Run} (S : Sealed s) (P : Placed s r) where
       loop : s.kind w.way_k ≡ 2 → Follows d y i
       loop k =
           let b = last_of {r = r} q hq z in
-          cases (same_or b.0 q)
+          cases (cases_eq b.0 q)
           (λ x. (on.0, lower qd (λ k'. rw x at b.2) on.1, on.2))
           (λ x.
           let u = descend b.0 y b.1.exists hy (rw (b.1.one_block ∙ e) w.way_in) in
@@ -165,7 +166,7 @@ module _ {s : Spec} {r : Run} (S : Sealed s) (P : Placed s r) where
           (λ e. follow_fresh (range id) hy w id (λ q c z f b. omega (arith, e, chain_le P.tree c, P.tree.falls q z, f)))
           (λ q.
           let z : 0 < q.0 = child_pos P.tree q.2 q.3 in
-          cases (same_or (r.block q.0) w.way_k)
+          cases (cases_eq (r.block q.0) w.way_k)
           (λ e. follow_down (range q.1) hy w q.1 z q.2 e
           (go m q.0 q.1 (rw e w.way_in) (omega (arith, e, w.way_nearer))))
           (λ g. follow_fresh (range id) hy w id (λ q' c z' f b. g (ap r.block (no_rung_twice P.tree q.1 c z z' (q.2 ∙ sym f)) ∙ b))))

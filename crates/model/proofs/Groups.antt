@@ -3,7 +3,8 @@ use Rattle.std.proofs.Common.{◌≡◌, ℕ, zero, suc, ◌<◌, ◌≤◌, ◌
 use Rattle.model.specs.Forests.{Chain, stop, up, Falls}
 use Rattle.model.specs.Specifications.{Spec}
 use Rattle.model.specs.Runs.{Run, Mate, Next, First, Last, Alls, Firsts}
-use Rattle.model.proofs.Cases.{cases, same_or, less_or, zero_or}
+use Rattle.std.proofs.lemmas.Bool.{cases_eq, cases_lt}
+use Rattle.model.proofs.Cases.{cases, zero_or}
 use Rattle.model.proofs.Chains.{chain_le, chain_parent}
 
 -- q is the lowest copy below d in the chain of i that is a loop's and not the first of its group; p is the copy before it
@@ -34,7 +35,7 @@ module _ {r : Run} where
   mate_or : (q j : ℕ) → j < r.c → Mate r q j ⊎ (¬ (Mate r q j))
   mate_or q j h =
       cases (zero_or j) (λ z. inr (λ m. omega (arith, m.not_zero))) λ z.
-      cases (same_or (r.parent j) (r.parent q)) (λ e. cases (same_or (r.block j) (r.block q))
+      cases (cases_eq (r.parent j) (r.parent q)) (λ e. cases (cases_eq (r.block j) (r.block q))
       (λ e'. inl (record { exists = h; not_zero = z; one_parent = e; one_block = e' }))
       (λ d. inr (λ m. d m.one_block)))
       (λ d. inr (λ m. d m.one_parent))
@@ -44,17 +45,17 @@ module _ {r : Run} where
   first_or_next q h z = go q (omega arith) (λ j m l. l)
     where
       go : (k : ℕ) → k ≤ q → ((j : ℕ) → Mate r q j → j < q → j < k) → First r q ⊎ ((p : ℕ) × Next r p q)
-      go zero l f = inl (λ j m. cases (less_or j q) (λ a. absurd (omega (arith, f j m a))) (λ a. a))
+      go zero l f = inl (λ j m. cases (cases_lt j q) (λ a. absurd (omega (arith, f j m a))) (λ a. a))
       go (suc k) l f = cases (mate_or q k (omega arith))
           (λ m. inr (
             k,
             record {
               mate = mate_turn h z m;
               later = omega arith;
-              none_between = λ j m' b. cases (less_or j q) (λ a. absurd (omega (arith, f j (mate_join m m') a))) (λ a. a);
+              none_between = λ j m' b. cases (cases_lt j q) (λ a. absurd (omega (arith, f j (mate_join m m') a))) (λ a. a);
             },
           ))
-          (λ g. go k (omega arith) (λ j m a. cases (same_or j k) (λ e. absurd (g (rw e at m))) (λ d. omega (arith, f j m a))))
+          (λ g. go k (omega arith) (λ j m a. cases (cases_eq j k) (λ e. absurd (g (rw e at m))) (λ d. omega (arith, f j m a))))
 
   -- the last copy of a group: look down from c
   pub last_of : (q : ℕ) → q < r.c → 0 < q → (e : ℕ) × Mate r q e × Last r e
@@ -64,7 +65,7 @@ module _ {r : Run} where
       go zero l f = absurd (omega (arith, f q (mate_self h z)))
       go (suc k) l f = cases (mate_or q k (omega arith))
           (λ m. (k, m, λ j m'. omega (arith, f j (mate_join m m'))))
-          (λ g. go k (omega arith) (λ j m. cases (same_or j k) (λ e. absurd (g (rw e at m))) (λ d. omega (arith, f j m))))
+          (λ g. go k (omega arith) (λ j m. cases (cases_eq j k) (λ e. absurd (g (rw e at m))) (λ d. omega (arith, f j m))))
 
 -- P holds of every loop copy below d in the chain of i: going up the chain, a copy at a time
 module _ (s : Spec) (r : Run) (P : ℕ → Type 0) where
@@ -101,7 +102,7 @@ module _ {r : Run} (s : Spec) (f : Falls r.parent) where
         turn_next = t.turn_next;
         turn_firsts = alls_more s r (First r) a t.turn_firsts;
       })) in
-      cases (same_or (s.kind (r.block i)) 2)
+      cases (cases_eq (s.kind (r.block i)) 2)
       (λ k. cases (first_or_next i h z)
       (λ a. on (λ k'. a))
       (λ n. inr (record { q = i; p = n.0; turn_in = stop; turn_above = c; turn_loop = k; turn_firsts = alls_self s r (First r) f refl; turn_next = n.1 })))

@@ -9,7 +9,8 @@ use Rattle.model.specs.Relating.{Apart, Earlier, Rel}
 use Rattle.model.specs.Orders.{order1, order2, order3, Turned, Before}
 use Rattle.model.specs.Labels.{Label, Labelled, Yes, by_equal, by_loop, by_reach}
 use Rattle.model.specs.Laws.{Listed}
-use Rattle.model.proofs.Cases.{cases, same_or, less_or}
+use Rattle.std.proofs.lemmas.Bool.{cases_eq, cases_lt}
+use Rattle.model.proofs.Cases.{cases}
 use Rattle.model.proofs.Chains.{split_self, split_left, split_right, split_flip, one_left, one_right}
 use Rattle.model.proofs.Copies.{chain_range, block_pos, copy_range, earlier_apart, never_apart, placed_from}
 use Rattle.model.proofs.Orders.{meet, branch, position_less, position_same, position_copy, position_of, position_one}
@@ -89,7 +90,7 @@ module _ {sp : Spec} {r : Run} (S : Sealed sp) (P : Placed sp r) where
     forked e k =
         let k' : sp.kind (r.block t) ≡ 1 = ap sp.kind (sym e) ∙ k in
         let not : ¬ (Earlier sp r i j) = λ E. omega (arith, k, E.eloop, ap (λ y. sp.kind (r.block y)) (same_es E)) in
-        cases (less_or s t)
+        cases (cases_lt s t)
         (λ l. fork_on (apart_here e) not
         (branch sp r order1 x (inr (e, l)))
         (branch sp r order2 back (inr (sym e, turned_at order2 t s k' l))))
@@ -101,7 +102,7 @@ module _ {sp : Spec} {r : Run} (S : Sealed sp) (P : Placed sp r) where
     looped : r.block s ≡ r.block t → sp.kind (r.block s) ≡ 2 → Pair sp r i j
     looped e k =
         let k' : sp.kind (r.block t) ≡ 2 = ap sp.kind (sym e) ∙ k in
-        cases (less_or s t)
+        cases (cases_lt s t)
         (λ l. loop_on (record { es = s; et = t; esplit = x; eblock = e; eless = l; eloop = k })
         (branch sp r order1 x (inr (e, l)))
         (branch sp r order2 x (inr (e, turned_at order2 s t k l)))
@@ -114,15 +115,15 @@ module _ {sp : Spec} {r : Run} (S : Sealed sp) (P : Placed sp r) where
         (branch sp r order3 x (inr (e, turned_at order3 s t k l'))))
 
     split_pair : Pair sp r i j
-    split_pair = cases (same_or (r.block s) (r.block t))
+    split_pair = cases (cases_eq (r.block s) (r.block t))
         (λ e. let hs : s < r.c = chain_range nest P hi x.left in
         cases (S.ranges.kinds (r.block s) (block_pos nest P x.left_pos hs) (copy_range nest P hs x.left_pos)) (forked e) (looped e))
-        (λ g. cases (less_or (r.block s) (r.block t))
+        (λ g. cases (cases_lt (r.block s) (r.block t))
         (λ l. near_on (other_block g) (λ o. branch sp r o x (inl l)))
         (λ l. let l' : r.block t < r.block s = omega arith in near_back (other_block g) (λ o. branch sp r o back (inl l'))))
 
   pair : (i j : ℕ) → i < r.c → Pair sp r i j
-  pair i j hi = cases (same_or i j) one λ d. cases (meet P.tree i j)
+  pair i j hi = cases (cases_eq i j) one λ d. cases (meet P.tree i j)
       (λ c. near_on (above_not_apart c) (λ o. inl (c, d)))
       (λ m. cases m
       (λ c. near_back (below_not_apart c) (λ o. inl (c, λ e. d (sym e))))

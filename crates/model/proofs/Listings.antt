@@ -6,7 +6,8 @@ use Rattle.model.specs.Runs.{Run}
 use Rattle.model.specs.Orders.{Sooner, Before, Position}
 use Rattle.model.specs.Listings.{Stands, Child, Children, Laid, nothing, copy, Listing}
 use Rattle.model.specs.Laws.{Written}
-use Rattle.model.proofs.Cases.{cases, same_or, less_or, zero_or}
+use Rattle.std.proofs.lemmas.Bool.{cases_eq, cases_lt}
+use Rattle.model.proofs.Cases.{cases, zero_or}
 use Rattle.model.proofs.Chains.{chain_le, chain_eq, chain_join, chain_child, child_pos, above_zero}
 use Rattle.model.proofs.Lists.{In, first, later, is_first, in_none, in_cons, in_left, in_right, in_append, place_in, in_place}
 use Rattle.model.proofs.Lists.{Rising, empty, more, rising_append, rising_places, places_rising}
@@ -122,7 +123,7 @@ module _ (sp : Spec) (r : Run) (o : ℕ → Bool) (tree : Falls r.parent) where
         (λ p p' lp lp'. places_differ p p' lp (omega (arith, h.0))))
       where
         earlier : (j : ℕ) → Before sp r o j i → (p : ℕ) → Stands l p j → p < q
-        earlier j b p s = cases (less_or p q) (λ x. x) λ x. cases (same_or q p)
+        earlier j b p s = cases (cases_lt p q) (λ x. x) λ x. cases (cases_eq q p)
             (λ e.
             let same : j ≡ i = sym s.1 ∙ ap (λ p. get_or l p 0) (sym e) ∙ h.1 in
             absurd (before_never sp r o tree i (subst (λ z. Before sp r o z i) same b)))
@@ -180,7 +181,7 @@ module _ (sp : Spec) (r : Run) (o : ℕ → Bool) (tree : Falls r.parent) where
   child_or : (i k : ℕ) → k < r.c → Child r i k ⊎ (¬ (Child r i k))
   child_or i k h = cases (zero_or k)
       (λ z. inr (λ c. omega (arith, z, c.not_whole)))
-      (λ z. cases (same_or (r.parent k) i)
+      (λ z. cases (cases_eq (r.parent k) i)
       (λ e. inl (record { in_run = h; not_whole = z; directly = e }))
       (λ d. inr (λ c. d c.directly)))
 
@@ -198,7 +199,7 @@ module _ (sp : Spec) (r : Run) (o : ℕ → Bool) (tree : Falls r.parent) where
           (λ a. cases ((l.2 x).0 a)
               (λ e. (subst (λ z. Child r i z) (sym e) c, omega arith))
               (λ b. let d = (w.2 x).0 b in (d.0, omega (arith, d.1)))),
-          (λ a. (l.2 x).1 (cases (same_or x m) inl (λ d. inr ((w.2 x).1 (a.0, omega (arith, a.1)))))),
+          (λ a. (l.2 x).1 (cases (cases_eq x m) inl (λ d. inr ((w.2 x).1 (a.0, omega (arith, a.1)))))),
         ),
       ))
       (λ g. (
@@ -206,7 +207,7 @@ module _ (sp : Spec) (r : Run) (o : ℕ → Bool) (tree : Falls r.parent) where
         w.1,
         λ x. (
           (λ a. let d = (w.2 x).0 a in (d.0, omega (arith, d.1))),
-          (λ a. (w.2 x).1 (a.0, cases (same_or x m) (λ e. absurd (g (subst (λ z. Child r i z) e a.0))) (λ d. omega (arith, a.1)))),
+          (λ a. (w.2 x).1 (a.0, cases (cases_eq x m) (λ e. absurd (g (subst (λ z. Child r i z) e a.0))) (λ d. omega (arith, a.1)))),
         ),
       ))
 

@@ -5,7 +5,8 @@ use Rattle.model.specs.Specifications.{Spec}
 use Rattle.model.specs.Runs.{Run}
 use Rattle.model.specs.Orders.{Turned, Sooner, Before, Position}
 use Rattle.model.proofs.Counts.{count_some, count_all, count_one, count_lt}
-use Rattle.model.proofs.Cases.{cases, same_or, less_or}
+use Rattle.std.proofs.lemmas.Bool.{cases_eq, cases_lt}
+use Rattle.model.proofs.Cases.{cases}
 use Rattle.model.proofs.Chains.{over, chain_le, chain_eq, chain_parent, chain_child, chain_join, child_pos, comparable, split_self, split_flip, split_right}
 
 -- within a group
@@ -19,8 +20,8 @@ turned_join true s t u h k = omega arith
 turned_join false s t u h k = omega arith
 
 turned_total : (b : Bool) (s t : ℕ) → s ≢ t → Turned b s t ⊎ Turned b t s
-turned_total true s t d = cases (less_or s t) inr (λ h. inl (omega arith))
-turned_total false s t d = cases (less_or s t) inl (λ h. inr (omega arith))
+turned_total true s t d = cases (cases_lt s t) inr (λ h. inl (omega arith))
+turned_total false s t d = cases (cases_lt s t) inl (λ h. inr (omega arith))
 
 -- how two chains meet
 module _ (p : ℕ → ℕ) where
@@ -45,7 +46,7 @@ module _ {p : ℕ → ℕ} (f : Falls p) where
 
   meet_go : (m i j : ℕ) → i + j ≤ m → Meet p i j
   meet_go zero i j h = inl (chain_eq (omega arith))
-  meet_go (suc m) i j h = cases (same_or i j) (λ e. inl (chain_eq (sym e))) λ d. cases (less_or i j)
+  meet_go (suc m) i j h = cases (cases_eq i j) (λ e. inl (chain_eq (sym e))) λ d. cases (cases_lt i j)
       (λ l. meet_up l (meet_go m i (p j) (omega (arith, f.falls j (omega arith)))))
       (λ l. let l' : j < i = omega arith in meet_flip (meet_up l' (meet_flip (meet_go m (p i) j (omega (arith, f.falls i (omega arith)))))))
 
@@ -71,11 +72,11 @@ module _ (sp : Spec) (r : Run) (o : ℕ → Bool) where
       inr (h.0 ∙ k.0, turned_join (o (sp.kind (r.block s))) s t u h.1 (turned_move t u (sym h.0) k.1))
 
   pub sooner_total : {s t : ℕ} → s ≢ t → Sooner sp r o s t ⊎ Sooner sp r o t s
-  sooner_total {s} {t} d = cases (same_or (r.block s) (r.block t))
+  sooner_total {s} {t} d = cases (cases_eq (r.block s) (r.block t))
       (λ e. cases (turned_total (o (sp.kind (r.block s))) s t d)
       (λ h. inl (inr (e, h)))
       (λ h. inr (inr (sym e, turned_move t s e h))))
-      (λ g. cases (less_or (r.block s) (r.block t)) (λ h. inl (inl h)) (λ h. inr (inl (omega arith))))
+      (λ g. cases (cases_lt (r.block s) (r.block t)) (λ h. inl (inl h)) (λ h. inr (inl (omega arith))))
 
   -- among all copies
 
@@ -88,7 +89,7 @@ module _ (sp : Spec) (r : Run) (o : ℕ → Bool) where
     before_never i (inr b) = sooner_never (split_self f b.bsplit) b.sooner
 
     pub before_total : (i j : ℕ) → (i ≡ j) ⊎ (Before sp r o i j ⊎ Before sp r o j i)
-    before_total i j = cases (same_or i j) inl λ d. inr (cases (meet f i j)
+    before_total i j = cases (cases_eq i j) inl λ d. inr (cases (meet f i j)
         (λ c. inl (inl (c, d)))
         (λ x. cases x
         (λ c. inr (inl (c, λ e. d (sym e))))

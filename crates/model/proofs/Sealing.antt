@@ -4,7 +4,8 @@ use Rattle.model.specs.Paths.{Path*, here, step}
 use Rattle.model.specs.Forests.{Chain, stop, up, Falls}
 use Rattle.model.specs.Specifications.{Spec, Edge, Domain, KeepsLoopRule, ForkDomain, Sealed}
 use Rattle.model.specs.Runs.{Farthest}
-use Rattle.model.proofs.Cases.{cases, same_or}
+use Rattle.std.proofs.lemmas.Bool.{cases_eq}
+use Rattle.model.proofs.Cases.{cases}
 use Rattle.model.proofs.Chains.{chain_le, chain_dec, chain_join, above_zero, chain_parent, depth_of, depth_le, depth_chain}
 use Rattle.model.proofs.Paths.{path_join, path_turn, walk}
 
@@ -25,17 +26,17 @@ module _ {s : Spec} (S : Sealed s) where
 
   module _ {k : ℕ} (L : KeepsLoopRule s k) where
     pub enters : {x y : ℕ} → Edge s x y → (¬ (Domain s k x)) → Domain s k y → y ≡ s.source k
-    enters {x} {y} e f i = cases (same_or y (s.source k)) (λ h. h) (λ d. absurd (f (L.all_in y x i d e)))
+    enters {x} {y} e f i = cases (cases_eq y (s.source k)) (λ h. h) (λ d. absurd (f (L.all_in y x i d e)))
 
     pub leaves : {x y : ℕ} → Edge s x y → Domain s k x → (¬ (Domain s k y)) → x ≡ s.sink k
-    leaves {x} {y} e i f = cases (same_or x (s.sink k)) (λ h. h) (λ d. absurd (f (L.all_out x y i d e)))
+    leaves {x} {y} e i f = cases (cases_eq x (s.sink k)) (λ h. h) (λ d. absurd (f (L.all_out x y i d e)))
 
     -- walking back inside the domain ends at the source, and walking on at the sink
 
     pub from_source : {x : ℕ} → x < s.n → Domain s k x → Path* (Edge s) (s.source k) x
     from_source {x} h i =
         let w = walk (Edge s) (λ y. (y < s.n) × Domain s k y) (λ y. y ≡ s.source k) s.n (no_cycle S) (λ y a. a.0)
-        (λ y a. cases (same_or y (s.source k)) inl (λ d. let e = L.some_in y a.0 a.1 d in
+        (λ y a. cases (cases_eq y (s.source k)) inl (λ d. let e = L.some_in y a.0 a.1 d in
         inr (e.0, e.1, ((S.ranges.edge_range e.0 y e.1).0, L.all_in y e.0 a.1 d e.1))))
         x (h, i) in
         rw w.1 at w.3
@@ -44,7 +45,7 @@ module _ {s : Spec} (S : Sealed s) where
     to_sink {x} h i =
         let w = walk (λ a b. Edge s b a) (λ y. (y < s.n) × Domain s k y) (λ y. y ≡ s.sink k) s.n
         (λ a b p e. no_cycle S b a (path_turn {R = Edge s} p) e) (λ y a. a.0)
-        (λ y a. cases (same_or y (s.sink k)) inl (λ d. let e = L.some_out y a.0 a.1 d in
+        (λ y a. cases (cases_eq y (s.sink k)) inl (λ d. let e = L.some_out y a.0 a.1 d in
         inr (e.0, e.1, ((S.ranges.edge_range y e.0 e.1).1, L.all_out y e.0 a.1 d e.1))))
         x (h, i) in
         rw w.1 at (path_turn {R = Edge s} w.3)

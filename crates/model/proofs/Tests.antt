@@ -2,7 +2,8 @@
 use Rattle.std.proofs.Common.{◌≡◌, ℕ, zero, suc, ◌<◌, ◌≤◌, Bool, true, false, not, ◌&&◌, ◌||◌, T, eqb, leb, ◌⊎◌, subst, inl, inr, arith, le→leb, eqb→eq, leb→le, T_not}
 use lib.Dec.{not_T, eqb_refl}
 use Rattle.model.specs.Forests.{Chain, up, Falls}
-use Rattle.model.proofs.Cases.{cases, same_or}
+use Rattle.std.proofs.lemmas.Bool.{cases_eq}
+use Rattle.model.proofs.Cases.{cases}
 use Rattle.model.proofs.Chains.{chain_le, chain_eq, chain_parent}
 
 pub eq→eqb : (a b : ℕ) → a ≡ b → T (eqb a b)
@@ -88,7 +89,7 @@ any (suc n) f = f n || any n f
 pub all_so : (n : ℕ) (f : ℕ → Bool) → T (all n f) → (x : ℕ) → x < n → T (f x)
 all_so zero f h x l = absurd (omega arith)
 all_so (suc n) f h x l = let w = and_so (f n) (all n f) h in
-    cases (same_or x n) (λ e. rw e w.0) (λ d. all_so n f w.1 x (omega arith))
+    cases (cases_eq x n) (λ e. rw e w.0) (λ d. all_so n f w.1 x (omega arith))
 
 pub all_thus : (n : ℕ) (f : ℕ → Bool) → ((x : ℕ) → x < n → T (f x)) → T (all n f)
 all_thus zero f h = tt
@@ -100,7 +101,7 @@ any_so (suc n) f h = cases (or_so (f n) (any n f) h) (λ x. (n, omega arith, x))
 
 pub any_thus : (n : ℕ) (f : ℕ → Bool) (x : ℕ) → x < n → T (f x) → T (any n f)
 any_thus zero f x l h = absurd (omega arith)
-any_thus (suc n) f x l h = or_thus (f n) (any n f) (cases (same_or x n) (λ e. inl (rw (← e) h)) (λ d. inr (any_thus n f x (omega arith) h)))
+any_thus (suc n) f x l h = or_thus (f n) (any n f) (cases (cases_eq x n) (λ e. inl (rw (← e) h)) (λ d. inr (any_thus n f x (omega arith) h)))
 
 abbrev pub test_all : (n : ℕ) {P : ℕ → Type 0} → ((x : ℕ) → Test (P x)) → Test ((x : ℕ) → x < n → P x)
 test_all n t = record {

@@ -10,7 +10,8 @@ use Rattle.model.specs.Orders.{order1, order2, order3, Position}
 use Rattle.model.specs.Listings.{Listing}
 use Rattle.model.specs.Labels.{Labelled, equal, forked, looped, asked}
 use Rattle.model.specs.TwoRound.{table, paired, import_spec, import_run, import_label, ImportLaw}
-use Rattle.model.proofs.Cases.{cases, less_or}
+use Rattle.std.proofs.lemmas.Bool.{cases_lt}
+use Rattle.model.proofs.Cases.{cases}
 use Rattle.model.proofs.Chains.{chain_le}
 use Rattle.model.proofs.Counts.{count}
 use Rattle.model.proofs.Tests.{Test, by_test, test_eq, test_lt, test_bool, test_and, test_or, test_not, test_imp, test_all, test_any, test_chain, and_so, or_so}
@@ -24,7 +25,7 @@ use Rattle.model.proofs.Copies.{with_edges}
 table_falls : (ps : List ℕ) → table ps 0 ≡ 0 → ((i : ℕ) → i < length ps → 0 < i → table ps i < i) → Falls (table ps)
 table_falls ps z f = record {
   zero_parent = z;
-  falls = λ i h. cases (less_or i (length ps)) (λ l. f i l h) (λ l. omega (arith, get_or-eq_default ps 0 {n = i} l));
+  falls = λ i h. cases (cases_lt i (length ps)) (λ l. f i l h) (λ l. omega (arith, get_or-eq_default ps 0 {n = i} l));
 }
 
 -- what is paired stands at one place of both lists
