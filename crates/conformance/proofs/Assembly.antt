@@ -13,7 +13,6 @@ use Rattle.conformance.specs.declared.trial.Trial.{Trial}
 use Rattle.conformance.specs.Nonconforming.{AtHome, Once, Stepped, AllDerived, Unlisted}
 use Rattle.conformance.proofs.Halving.{stands_so}
 use Rattle.conformance.proofs.RunRanges.{trial_falls}
-use Rattle.model.proofs.Copies.{with_edges}
 
 -- a run file that was opened against as many vertices and blocks as the specification has, and whose copies and steps passed their checks
 pub placed_of : (t : Trial) → Fitting t → Follows (trial_spec t) (trial_run t) → Filled (trial_spec t) (trial_run t)
@@ -38,7 +37,7 @@ placed_of t fit fo fi ho on st =
 -- the listed edges are exactly the derived ones
 pub conforms_of : (s : Spec) (bytes : List ℕ) → Placed s (run_of bytes) → AllDerived s (run_of bytes) (run_edges_of bytes)
     → ((u : ℕ) → ¬ (Unlisted s (run_of bytes) u)) → Conforms s (run_of bytes)
-conforms_of s bytes P D n = with_edges P (λ u w. (forth u w, back u w))
+conforms_of s bytes P D n = record { placed = P; exactly = λ u w. (forth u w, back u w) }
   where
     forth : (u w : ℕ) → T ((run_of bytes).listed u w) → Derived s (run_of bytes) u w
     forth u w t =

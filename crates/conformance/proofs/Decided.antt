@@ -81,10 +81,10 @@ module _ (s : Spec) (bytes : List ℕ) where
   one (unlisted P D l) (unlisted P' D' l') = ap (λ i. record { layer = 3; number = 17; place = i }) (lowest_one (Unlisted s r) l l')
 
   both : {f : Fault} → Conforms s r → ¬ (Nonconforming s bytes f)
-  both C (misnested m) = nested C.follows C.children m
-  both C (astray fo fi l) = not_astray C.at_home l.0
-  both C (repeated fo fi ho l) = not_repeated C.only_step l.0
-  both C (short_of fo fi ho on l) = not_short C.one_step l.0
+  both C (misnested m) = nested C.placed.follows C.placed.children m
+  both C (astray fo fi l) = not_astray C.placed.at_home l.0
+  both C (repeated fo fi ho l) = not_repeated C.placed.only_step l.0
+  both C (short_of fo fi ho on l) = not_short C.placed.one_step l.0
   both C (stray {k} P l) =
       let e = get_or es k no_run_edge in
       l.0.1 ((C.exactly e.tail e.head).0 (stands_thus es e.tail e.head k (l.0.0, refl, refl)))

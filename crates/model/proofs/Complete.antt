@@ -12,7 +12,7 @@ use Rattle.model.proofs.Cases.{cases}
 use Rattle.model.proofs.Chains.{over, chain_le, chain_parent, chain_dec, chain_join, above_split, one_left, one_right, split_flip}
 use Rattle.model.proofs.Paths.{path_join, path_one, path_last, path_map, walk}
 use Rattle.model.proofs.Sealing.{no_cycle, enters, from_source, to_sink, no_circle, farthest_of, far_chain}
-use Rattle.model.proofs.Copies.{chain_range, maps, agree, same_or_apart, in_copy, copy_in, copy_range, next_pos, apart_flip, apart_as, earlier_apart, earlier_as, earlier_next, never_apart, mates_apart, mates_earlier, placed_from}
+use Rattle.model.proofs.Copies.{chain_range, maps, agree, same_or_apart, in_copy, copy_in, copy_range, next_pos, apart_flip, apart_as, earlier_apart, earlier_as, earlier_next, never_apart, mates_apart, mates_earlier}
 use Rattle.model.proofs.Groups.{Turn, firsts_or_turn, first_or_next, mate_turn, mate_join}
 use Rattle.model.proofs.Descend.{Lands, descend, follow}
 use Rattle.model.proofs.Sound.{loop_of, sound}
@@ -334,7 +334,7 @@ module _ {s : Spec} {r : Run} (S : Sealed s) (P : Placed s r) where
 -- and so for the edges that a conforming run lists
 module _ {s : Spec} {r : Run} (S : Sealed s) (C : Conforms s r) where
   pub sound_listed : {u w : ℕ} → u < r.v → Path* (Listed r) u w → Rel s r u w
-  sound_listed hu p = sound S (placed_from C) hu (path_map (λ a b e. (C.exactly a b).0 e) p)
+  sound_listed hu p = sound S C.placed hu (path_map (λ a b e. (C.exactly a b).0 e) p)
 
   pub complete_listed : {u w : ℕ} → u < r.v → w < r.v → Rel s r u w → Path* (Listed r) u w
-  complete_listed hu hw R = path_map (λ a b e. (C.exactly a b).1 e) (complete S (placed_from C) hu hw R)
+  complete_listed hu hw R = path_map (λ a b e. (C.exactly a b).1 e) (complete S C.placed hu hw R)

@@ -1,45 +1,12 @@
 -- Placed runs; the copies in a chain and their blocks: which copy of a block a chain holds, and where two chains hold different ones.
-use Rattle.std.proofs.Common.{◌≡◌, ℕ, zero, suc, ◌<◌, ◌≤◌, T, ◌≢◌, ◌⊎◌, ◌↔◌, sym, refl, ap, ◌∙◌, inl, inr, arith}
+use Rattle.std.proofs.Common.{◌≡◌, ℕ, zero, suc, ◌<◌, ◌≤◌, ◌≢◌, ◌⊎◌, sym, refl, ap, ◌∙◌, inl, inr, arith}
 use Rattle.model.specs.Forests.{Chain, stop, up, Falls, Split}
 use Rattle.model.specs.Specifications.{Spec, Domain}
-use Rattle.model.specs.Runs.{Run, Placed, Conforms, Derived, Mate, Next}
+use Rattle.model.specs.Runs.{Run, Placed, Mate, Next}
 use Rattle.model.specs.Relating.{Apart, Earlier}
 use Rattle.std.proofs.lemmas.Bool.{cases_eq}
 use Rattle.model.proofs.Cases.{cases, zero_or}
 use Rattle.model.proofs.Chains.{chain_le, chain_parent, chain_join, comparable, split_self, split_flip}
-
--- a run that conforms is placed
-pub placed_from : {s : Spec} {r : Run} → Conforms s r → Placed s r
-placed_from C = record {
-  tree = C.tree;
-  copies = C.copies;
-  block_zero = C.block_zero;
-  block_range = C.block_range;
-  context_range = C.context_range;
-  origin_range = C.origin_range;
-  follows = C.follows;
-  children = C.children;
-  at_home = C.at_home;
-  one_step = C.one_step;
-  only_step = C.only_step;
-}
-
--- a placed run whose listed edges are exactly the derived ones conforms
-pub with_edges : {s : Spec} {r : Run} → Placed s r → ((u w : ℕ) → T (r.listed u w) ↔ Derived s r u w) → Conforms s r
-with_edges P e = record {
-  tree = P.tree;
-  copies = P.copies;
-  block_zero = P.block_zero;
-  block_range = P.block_range;
-  context_range = P.context_range;
-  origin_range = P.origin_range;
-  follows = P.follows;
-  children = P.children;
-  at_home = P.at_home;
-  one_step = P.one_step;
-  only_step = P.only_step;
-  exactly = e;
-}
 
 module _ {r : Run} where
   pub apart_flip : {i j : ℕ} → Apart r i j → Apart r j i

@@ -12,7 +12,7 @@ use Rattle.model.specs.Laws.{Listed}
 use Rattle.std.proofs.lemmas.Bool.{cases_eq, cases_lt}
 use Rattle.model.proofs.Cases.{cases}
 use Rattle.model.proofs.Chains.{split_self, split_left, split_right, split_flip, one_left, one_right}
-use Rattle.model.proofs.Copies.{chain_range, block_pos, copy_range, earlier_apart, never_apart, placed_from}
+use Rattle.model.proofs.Copies.{chain_range, block_pos, copy_range, earlier_apart, never_apart}
 use Rattle.model.proofs.Orders.{meet, branch, position_less, position_same, position_copy, position_of, position_one}
 use Rattle.model.proofs.Paths.{path_map, path_last}
 use Rattle.model.proofs.Complete.{no_run_cycle, sound_listed, complete_listed}
@@ -220,21 +220,21 @@ module _ {sp : Spec} {r : Run} (S : Sealed sp) (P : Placed sp r) where
 module _ {sp : Spec} {r : Run} (S : Sealed sp) (C : Conforms sp r) where
   module _ {u w : ℕ} (hu : u < r.v) (hw : w < r.v) {A B : Label} (a : Labelled sp r u A) (b : Labelled sp r w B) where
     pub says : Path* (Listed r) u w → Yes A B (Path* (Edge sp) A.vertex B.vertex)
-    says p = yes_of S (placed_from C) hu hw a b (sound_listed S C hu p)
+    says p = yes_of S C.placed hu hw a b (sound_listed S C hu p)
 
     pub said : Yes A B (Path* (Edge sp) A.vertex B.vertex) → Path* (Listed r) u w
-    said y = complete_listed S C hu hw (rel_of S (placed_from C) hu hw a b y)
+    said y = complete_listed S C hu hw (rel_of S C.placed hu hw a b y)
 
     pub after_says : Path⁺ (Listed r) u w → (A ≢ B) × Yes A B (Path* (Edge sp) A.vertex B.vertex)
     after_says p = (
       (λ e.
-          let q : u ≡ w = one_label (placed_from C) hu hw (subst (λ x. Labelled sp r u x) e a) b in
+          let q : u ≡ w = one_label C.placed hu hw (subst (λ x. Labelled sp r u x) e a) b in
           let d : Path* (Derived sp r) u p.0 = path_map (λ a b e. (C.exactly a b).0 e) p.1 in
-          no_run_cycle S (placed_from C) u p.0 d (subst (λ x. Derived sp r p.0 x) (sym q) ((C.exactly p.0 w).0 p.2))),
+          no_run_cycle S C.placed u p.0 d (subst (λ x. Derived sp r p.0 x) (sym q) ((C.exactly p.0 w).0 p.2))),
       says (step p.1 p.2),
     )
 
     pub after_said : (A ≢ B) × Yes A B (Path* (Edge sp) A.vertex B.vertex) → Path⁺ (Listed r) u w
     after_said y = cases (path_last (said y.1))
-        (λ e. absurd (y.0 (same_label (placed_from C) a (subst (λ x. Labelled sp r x B) (sym e) b))))
+        (λ e. absurd (y.0 (same_label C.placed a (subst (λ x. Labelled sp r x B) (sym e) b))))
         (λ x. x)

@@ -17,7 +17,6 @@ use Rattle.model.proofs.Counts.{count}
 use Rattle.model.proofs.Tests.{Test, by_test, test_eq, test_lt, test_bool, test_and, test_or, test_not, test_imp, test_all, test_any, test_chain, and_so, or_so}
 use Rattle.model.proofs.Deciders.{test_in, test_derived, test_before, position_at}
 use Rattle.model.proofs.Listings.{written}
-use Rattle.model.proofs.Copies.{with_edges}
 
 -- tables
 
@@ -207,10 +206,10 @@ import_placed = record {
 }
 
 import_conforms : Conforms import_spec import_run
-import_conforms = with_edges import_placed (λ u w. (
-  (λ h. let l = listed_low u w h in (derived_now u l.0 w l.1).0 h),
-  λ d. (derived_now u d.tail_range w d.head_range).1 d,
-))
+import_conforms = record {
+  placed = import_placed;
+  exactly = λ u w. ((λ h. let l = listed_low u w h in (derived_now u l.0 w l.1).0 h), λ d. (derived_now u d.tail_range w d.head_range).1 d);
+}
 
 -- the orders and the labels
 

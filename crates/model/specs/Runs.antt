@@ -42,11 +42,11 @@ Alls s r P i d = (q : ℕ) → Chain r.parent i q → Chain r.parent q d → q �
 
 -- below the copy d, every loop copy in the chain of i is the last of its group
 abbrev pub Lasts : Spec → Run → ℕ → ℕ → Type 0
-Lasts s r i d = (q : ℕ) → Chain r.parent i q → Chain r.parent q d → q ≢ d → s.kind (r.block q) ≡ 2 → Last r q
+Lasts s r i d = Alls s r (Last r) i d
 
 -- below the copy d, every loop copy in the chain of i is the first of its group
 abbrev pub Firsts : Spec → Run → ℕ → ℕ → Type 0
-Firsts s r i d = (q : ℕ) → Chain r.parent i q → Chain r.parent q d → q ≢ d → s.kind (r.block q) ≡ 2 → First r q
+Firsts s r i d = Alls s r (First r) i d
 
 -- a is the block farthest from block 0 whose domain holds the vertices x and y
 pub record Farthest (s : Spec) (x y a : ℕ) : Type 0 where
@@ -109,22 +109,7 @@ pub record Placed (s : Spec) (r : Run) : Type 0 where
 
 -- the run conforms to the specification
 pub record Conforms (s : Spec) (r : Run) : Type 0 where
-  -- Its numbers are in their ranges. Copy 0 is of block 0; every other copy has a parent numbered below it and a block above 0.
-  pub tree : Falls r.parent
-  pub copies : 0 < r.c
-  pub block_zero : r.block 0 ≡ 0
-  pub block_range : (i : ℕ) → 0 < i → i < r.c → (0 < r.block i) × (r.block i < s.b)
-  pub context_range : (u : ℕ) → u < r.v → r.context u < r.c
-  pub origin_range : (u : ℕ) → u < r.v → r.origin u < s.n
-  -- Each copy's block has as its parent the block of the copy's parent.
-  pub follows : (i : ℕ) → i < r.c → r.block (r.parent i) ≡ s.above (r.block i)
-  -- Each copy has under it at least one copy of each block but 0 whose parent is its block.
-  pub children : (i k : ℕ) → i < r.c → 0 < k → k < s.b → s.above k ≡ r.block i
-      → (j : ℕ) × (j < r.c) × (0 < j) × (r.parent j ≡ i) × (r.block j ≡ k)
-  -- For each copy and each vertex at home in its block, exactly one step has that context and that origin, and there are no other steps.
-  pub at_home : (u : ℕ) → u < r.v → s.home (r.origin u) ≡ r.block (r.context u)
-  pub one_step : (i x : ℕ) → i < r.c → x < s.n → s.home x ≡ r.block i
-      → (u : ℕ) × (u < r.v) × (r.context u ≡ i) × (r.origin u ≡ x)
-  pub only_step : (u w : ℕ) → u < r.v → w < r.v → r.context u ≡ r.context w → r.origin u ≡ r.origin w → u ≡ w
+  -- Its copies and steps are as the specification wants them.
+  pub placed : Placed s r
   -- The listed edges are exactly the derived ones.
   pub exactly : (u w : ℕ) → T (r.listed u w) ↔ Derived s r u w
