@@ -1,34 +1,11 @@
--- Graphs by their rows, of any number of rows.
-use Rattle.std.proofs.Common.{◌≡◌, ℕ, ◌+◌, ◌<◌, ◌≤◌, ◌≢◌, ◌⊎◌, ◌↔◌, List, length, get_or, set, replicate, sym, refl, ◌∙◌, subst, inl, inr, arith}
+-- The rows of a graph while edges are joined through one vertex.
+use Rattle.std.proofs.Common.{◌≡◌, ℕ, ◌+◌, ◌<◌, ◌≤◌, ◌≢◌, ◌⊎◌, ◌↔◌, List, length, get_or, set, sym, refl, ◌∙◌, subst, inl, inr, arith}
 use Rattle.std.proofs.lemmas.List.{get_or-set_same, get_or-set_other, length-set}
 use Rattle.std.proofs.lemmas.Bool.{cases_eq}
 use Rattle.graphs.specs.declared.row.Row.{Row}
-use Rattle.graphs.specs.declared.graph.Graph.{Graph}
 use Rattle.graphs.specs.Rows.{Holds, vertices}
-use Rattle.graphs.specs.Graphs.{none, Joins}
-use Rattle.graphs.proofs.Pairs.{paired_range, paired_or, paired_none, paired_added}
-
--- an edge leads from a vertex to a vertex
-pub joins_range : (g : Graph) (x y : ℕ) → Joins g x y → (x < vertices) × (y < vertices)
-unfolding Joins
-joins_range g = paired_range vertices g.rows
-
--- there is an edge or there is none
-pub joins_or : (g : Graph) (x y : ℕ) → Joins g x y ⊎ (¬ (Joins g x y))
-unfolding Joins
-joins_or g = paired_or vertices g.rows
-
--- rows that all hold nothing
-pub joins_none : (n : ℕ) (row : Row) → ((x : ℕ) → Holds row x → ⊥) → (x y : ℕ) → Joins (record { rows = replicate n row }) x y → ⊥
-unfolding Joins
-joins_none = paired_none vertices
-
--- a vertex is added to one row
-module _ (g : Graph) (x y : ℕ) (row : Row) (inside : x < length g.rows) (vertex : x < vertices)
-    (law : (b : ℕ) → Holds row b ↔ (Holds (get_or g.rows x none) b ⊎ ((b ≡ y) × (y < vertices)))) where
-  pub added : (a b : ℕ) → Joins (record { rows = set g.rows x row }) a b ↔ (Joins g a b ⊎ ((a ≡ x) × (b ≡ y) × (x < vertices) × (y < vertices)))
-  unfolding Joins
-  added = paired_added vertices g.rows x y row inside vertex law
+use Rattle.graphs.specs.Grids.{none, Marks}
+use Rattle.graphs.specs.Graphs.{Graph, Joins}
 
 -- a loop over rows that joins via to each that holds k: those below i are as they should be, the others as they were
 pub record Widening (first : List Row) (via : Row) (k : ℕ) (rows : List Row) (i : ℕ) : Type 0 where
@@ -62,7 +39,7 @@ widening_more first via k rows i row w l law =
 
 pub widening_all : (g : Graph) (k : ℕ) (rows : List Row) (i : ℕ) → k < vertices → vertices ≤ i → Widening g.rows (get_or g.rows k none) k rows i
     → (x y : ℕ) → Joins (record { rows = rows }) x y ↔ (Joins g x y ⊎ (Joins g x k × Joins g k y))
-unfolding Joins
+unfolding Marks
 widening_all g k rows i h l w x y = (
   (λ j.
       let inside : x < i = omega (arith, j.0) in

@@ -3,21 +3,11 @@ ghost use Rattle.graphs.specs.Grids.{Marks};
 ghost use Rattle.graphs.specs.Rows.{vertices};
 
 use crate::row::Row;
-use std::alloc::AllocError;
 
 /// A set of pairs of a number below ROWS and a vertex: row i is the set of all x that are paired with i.
+#[derive(Clone, Copy)]
 pub struct Grid<const ROWS: usize> {
     pub(crate) rows: [Row; ROWS],
-}
-
-impl<const ROWS: usize> Copy for Grid<ROWS> {}
-
-impl<const ROWS: usize> Clone for Grid<ROWS> {
-    ghost is_clone = { λ a b. a ≡ b };
-
-    fn clone(&self) -> Result<Self, AllocError> {
-        Ok(*self)
-    }
 }
 
 impl<const ROWS: usize> Grid<ROWS> {
@@ -25,9 +15,8 @@ impl<const ROWS: usize> Grid<ROWS> {
     pub fn new() -> Self
         ensures { (i x : ℕ) → Marks result i x → ⊥ }
     {
-        Grid {
-            rows: [Row::empty(); ROWS],
-        }
+        let rows = [Row::empty(); ROWS];
+        Grid { rows }
     }
 
     /// Adds the pair of i and x; where there is no row i, or x is no vertex, nothing changes.
@@ -43,6 +32,6 @@ impl<const ROWS: usize> Grid<ROWS> {
     pub fn has(&self, i: usize, x: usize) -> bool
         ensures { T result ↔ Marks self.now i x }
     {
-        i < ROWS && self.rows[i].has(x)
+        self.rows.get(i).is_some_and(|row| row.has(x))
     }
 }

@@ -1,7 +1,7 @@
 use Rattle.std.proofs.Common.{get_or, arith}
-use Rattle.graphs.specs.Graphs.{none}
+use Rattle.graphs.specs.Grids.{none}
 use Rattle.graphs.proofs.Graphs.{widening_none, widening_more, widening_all}
-use Rattle.graphs.proofs.graph.Graph.join_through.Goals as goal
+use Rattle.graphs.proofs.graph.Grid+VERTICES.join_through.Goals as goal
 
 pub loop-row-init : goal.loop-row-init
 loop-row-init c = widening_none c.args.self.now.rows (get_or c.args.self.now.rows c.args.k none) c.args.k

@@ -1,9 +1,9 @@
 use Rattle.std.proofs.Common.{◌<◌, arith}
 use Rattle.graphs.specs.Graphs.{Joins}
 use Rattle.graphs.specs.Rows.{vertices}
-use Rattle.graphs.proofs.Graphs.{joins_range}
+use Rattle.graphs.proofs.Grids.{marks_range}
 use Rattle.graphs.proofs.Closing.{closing_none, closing_more, closing_all}
-use Rattle.graphs.proofs.graph.Graph.close.Goals as goal
+use Rattle.graphs.proofs.graph.Grid+VERTICES.close.Goals as goal
 
 pub loop-k-init : goal.loop-k-init
 loop-k-init c = closing_none (Joins c.args.self.now)
@@ -15,5 +15,5 @@ loop-k-preserved c =
 pub returns : goal.returns
 returns c =
     closing_all (Joins c.args.self.now) (Joins c.loop-k.self) c.loop-k.k
-    (λ x y j. let inside : x < vertices = (joins_range c.args.self.now x y j).0 in omega arith)
+    (λ x y j. let inside : x < vertices = (marks_range c.args.self.now x y j).0 in omega arith)
     c.loop-k.invariant
