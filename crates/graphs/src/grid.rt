@@ -15,8 +15,9 @@ impl<const ROWS: usize> Grid<ROWS> {
     pub fn new() -> Self
         ensures { (i x : ℕ) → Marks result i x → ⊥ }
     {
-        let rows = [Row::empty(); ROWS];
-        Grid { rows }
+        Grid {
+            rows: [Row::empty(); ROWS],
+        }
     }
 
     /// Adds the pair of i and x; where there is no row i, or x is no vertex, nothing changes.
