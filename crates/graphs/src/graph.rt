@@ -1,10 +1,10 @@
 ghost use Rattle.std.specs.Prelude.{ℕ, ◌<◌, ◌⊎◌, ◌↔◌};
 ghost use Rattle.model.specs.Paths.{Path⁺};
 ghost use Rattle.graphs.specs.Graphs.{Joins};
-ghost use Rattle.graphs.specs.Rows.{Holds, vertices};
+ghost use Rattle.graphs.specs.Rows.{vertices};
 
 use crate::grid::Grid;
-use crate::row::{Row, VERTICES};
+use crate::row::VERTICES;
 
 /// A relation on the numbers below VERTICES: row x is the set of all y to which an edge leads from x.
 pub type Graph = Grid<VERTICES>;
@@ -20,20 +20,16 @@ impl Grid<VERTICES> {
     }
 
     /// Adds an edge from x to y wherever one led from x to k, and one from k to y.
+    #[tactic(auto, unfolding(crate::specs::Grids::Marks))]
     fn join_through(&mut self, k: usize)
         requires { k < vertices }
         ensures { (x y : ℕ) → Joins self.new x y ↔ (Joins self.old x y ⊎ (Joins self.old x k × Joins self.old k y)) }
     {
         let via = self.rows[k];
         for row in self.rows.iter_mut() {
-            *row = widened(*row, via, k);
+            if row.has(k) {
+                *row = row.joined(via);
+            }
         }
     }
-}
-
-/// The row, joined with `via` where it holds k.
-fn widened(row: Row, via: Row, k: usize) -> Row
-    ensures { (y : ℕ) → Holds result y ↔ (Holds row y ⊎ (Holds row k × Holds via y)) }
-{
-    if row.has(k) { row.joined(via) } else { row }
 }

@@ -1,3 +1,5 @@
+#![tactic(auto, unfolding(crate::specs::Grids::Marks))]
+
 ghost use Rattle.std.specs.Prelude.{◌≡◌, ℕ, ◌<◌, T, ◌⊎◌, ◌↔◌};
 ghost use Rattle.graphs.specs.Grids.{Marks};
 ghost use Rattle.graphs.specs.Rows.{vertices};
@@ -24,6 +26,7 @@ impl<const ROWS: usize> Grid<ROWS> {
     pub fn add(&mut self, i: usize, x: usize)
         ensures { (a b : ℕ) → Marks self.new a b ↔ (Marks self.old a b ⊎ ((a ≡ i) × (b ≡ x) × (i < ROWS) × (x < vertices))) }
     {
+        // by index: of a write through get_mut a proof learns nothing but the length
         if i < ROWS {
             self.rows[i].insert(x);
         }

@@ -17,6 +17,7 @@ pub struct Row {
 
 impl Row {
     /// The set of no vertex.
+    #[tactic(auto, unfolding(crate::specs::Rows::Holds, crate::specs::Rows::Has))]
     pub fn empty() -> Self
         ensures { (x : ℕ) → Holds result x → ⊥ }
     {
@@ -24,6 +25,7 @@ impl Row {
     }
 
     /// Whether x is in the set; beyond the width no number is.
+    #[tactic(auto, unfolding(crate::specs::Rows::Holds, crate::specs::Rows::Has))]
     pub fn has(&self, x: usize) -> bool
         ensures { T result ↔ Holds self.now x }
     {
@@ -33,9 +35,11 @@ impl Row {
     }
 
     /// Adds x to the set; beyond the width nothing changes.
+    #[tactic(auto, using(crate::proofs::Rows::marked_has), unfolding(crate::specs::Rows::Holds))]
     pub fn insert(&mut self, x: usize)
         ensures { (y : ℕ) → Holds self.new y ↔ (Holds self.old y ⊎ ((y ≡ x) × (x < vertices))) }
     {
+        // by index: of a write through get_mut a proof learns nothing but the length
         if x / 64 < WORDS {
             self.words[x / 64] |= 1 << (x % 64);
         }

@@ -9,11 +9,10 @@ pub loop-k-init : goal.loop-k-init
 loop-k-init c = closing_none (Joins c.args.self.now)
 
 pub loop-k-preserved : goal.loop-k-preserved
-loop-k-preserved c =
-    closing_more (Joins c.args.self.now) (Joins c.loop-k.self) (Joins c.join_through.new.self) c.loop-k.k c.loop-k.invariant c.join_through.ensures
+loop-k-preserved c = closing_more _ _ _ _ c.loop-k.invariant c.join_through.ensures
 
 pub returns : goal.returns
 returns c =
-    closing_all (Joins c.args.self.now) (Joins c.loop-k.self) c.loop-k.k
+    closing_all _ _ c.loop-k.k
     (λ x y j. let inside : x < vertices = (marks_range c.args.self.now x y j).0 in omega arith)
     c.loop-k.invariant
