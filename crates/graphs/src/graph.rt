@@ -27,9 +27,7 @@ impl Grid<VERTICES> {
     {
         let via = self.rows[k];
         for row in self.rows.iter_mut() {
-            if row.has(k) {
-                *row = row.joined(via);
-            }
+            *row = if row.has(k) { row.joined(via) } else { *row };
         }
     }
 }
