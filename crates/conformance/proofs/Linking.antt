@@ -2,9 +2,8 @@
 use Rattle.std.proofs.Common.{◌≡◌, ℕ, ◌+◌, ◌<◌, ◌⊎◌, ◌↔◌, sym, ap, ◌∙◌, inl, inr, arith}
 use Rattle.model.specs.Specifications.{Spec}
 use Rattle.model.proofs.Cases.{cases, same_or}
-use Rattle.graphs.specs.Graphs.{Joins}
+use Rattle.graphs.specs.Graphs.{Graph, Joins}
 use Rattle.graphs.specs.Rows.{vertices}
-use Rattle.graphs.specs.declared.graph.Graph.{Graph}
 use Rattle.conformance.specs.Links.{HasEdges, TurnsBelow, LinkedBelow}
 
 module _ (s : Spec) (g : Graph) where

@@ -4,8 +4,7 @@ use Rattle.model.specs.Forests.{Chain}
 use Rattle.model.specs.Meetings.{Meets}
 use Rattle.model.specs.Runs.{Run, Placed, Next, First as IsFirst, Last as IsLast}
 use Rattle.model.specs.Specifications.{Spec, Edge}
-use Rattle.graphs.specs.Graphs.{Joins}
-use Rattle.graphs.specs.declared.graph.Graph.{Graph}
+use Rattle.graphs.specs.Graphs.{Graph, Joins}
 use Rattle.conformance.specs.Groups.{Grouped}
 use Rattle.conformance.specs.declared.derived.End.{End}
 use Rattle.conformance.specs.declared.derived.End.TheVariants.{First, Last}

@@ -1,8 +1,7 @@
 -- The pairs of origins that a derived edge can have.
 use Rattle.std.specs.Prelude.{◌≡◌, ℕ, ◌<◌, ◌⊎◌, ◌↔◌}
 use Rattle.model.specs.Specifications.{Spec, Edge}
-use Rattle.graphs.specs.Graphs.{Joins}
-use Rattle.graphs.specs.declared.graph.Graph.{Graph}
+use Rattle.graphs.specs.Graphs.{Graph, Joins}
 
 -- the graph has the edges of the specification
 abbrev pub HasEdges : Spec → Graph → Type 0

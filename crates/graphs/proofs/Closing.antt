@@ -1,6 +1,6 @@
 -- The closure of a relation, vertex by vertex.
-use Rattle.std.proofs.Common.{◌≡◌, ℕ, ◌+◌, ◌<◌, ◌⊎◌, ◌↔◌, subst, inl, inr, arith}
-use Rattle.std.proofs.lemmas.Bool.{cases_lt}
+use Rattle.std.proofs.Common.{ℕ, ◌+◌, ◌<◌, ◌⊎◌, ◌↔◌, inl, inr, arith}
+use Rattle.std.proofs.lemmas.Bool.{cases_eq}
 use Rattle.model.specs.Paths.{Path*, Path⁺, here, step}
 use Rattle.model.proofs.Paths.{path_join, path_map}
 
@@ -21,45 +21,16 @@ closing_none R = record { sound = λ x y e. (x, here, e); holds = λ x y e. e; j
 
 -- one vertex more
 module _ (R Q Q' : ℕ → ℕ → Type 0) (k : ℕ) (c : Closing R Q k) (law : (x y : ℕ) → Q' x y ↔ (Q x y ⊎ (Q x k × Q k y))) where
-  -- an edge into or out of k itself is an old one
-  into : (x : ℕ) → Q' x k → Q x k
-  into x e = elim ((law x k).0 e) [ inl p ↦ p | inr p ↦ p.0 ]
-
-  outof : (y : ℕ) → Q' k y → Q k y
-  outof y e = elim ((law k y).0 e) [ inl p ↦ p | inr p ↦ p.1 ]
-
-  old : (m : ℕ) → m < k → (x y : ℕ) → Q' x m → Q' m y → Q' x y
-  old m h x y p q =
-      (law x y).1
-      (elim ((law x m).0 p) [
-        | inl a ↦
-            elim ((law m y).0 q) [
-              | inl b ↦ inl (c.joins m h x y a b)
-              | inr b ↦ inr (c.joins m h x k a b.0, b.1)
-            ]
-        | inr a ↦
-            elim ((law m y).0 q) [
-              | inl b ↦ inr (a.0, c.joins m h k y a.1 b)
-              | inr b ↦ inr (a.0, b.1)
-            ]
-      ])
+  -- each edge into or out of k itself is an old one
+  meet : (m : ℕ) → m < k + 1 → (x y : ℕ) → Q' x m → Q' m y → Q' x y
+  meet m h x y p q = let a = law x m in let b = law m y in let d = law x y in let j = c.joins m in let s = cases_eq m k in grind arith
 
   pub closing_more : Closing R Q' (k + 1)
   closing_more =
       record {
-        sound = λ x y e.
-            elim ((law x y).0 e) [
-              | inl p ↦ c.sound x y p
-              | inr p ↦ path⁺_join {R = R} (c.sound x k p.0) (c.sound k y p.1)
-            ];
+        sound = λ x y e. elim ((law x y).0 e) [ inl p ↦ c.sound x y p | inr p ↦ path⁺_join {R = R} (c.sound x k p.0) (c.sound k y p.1) ];
         holds = λ x y e. (law x y).1 (inl (c.holds x y e));
-        joins = λ m h x y p q.
-            elim (cases_lt m k) [
-              | inl s ↦ old m s x y p q
-              | inr s ↦
-                  let e : m ≡ k = omega (arith, h, s) in
-                  (law x y).1 (inr (into x (subst (λ (v : ℕ). Q' x v) e p), outof y (subst (λ (v : ℕ). Q' v y) e q)))
-            ];
+        joins = meet;
       }
 
 -- where each edge of R starts below k, Q is the closure of R

@@ -1,4 +1,4 @@
 pub mod Rows
-pub mod Graphs
 pub mod Grids
+pub mod Graphs
 pub mod Tests

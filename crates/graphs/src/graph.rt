@@ -1,41 +1,15 @@
-ghost use Rattle.std.specs.Prelude.{◌≡◌, ℕ, ◌<◌, T, ◌⊎◌, ◌↔◌};
+ghost use Rattle.std.specs.Prelude.{ℕ, ◌<◌, ◌⊎◌, ◌↔◌};
 ghost use Rattle.model.specs.Paths.{Path⁺};
 ghost use Rattle.graphs.specs.Graphs.{Joins};
-ghost use Rattle.graphs.specs.Rows.{Holds, vertices};
+ghost use Rattle.graphs.specs.Rows.{vertices};
 
-use crate::row::{Row, VERTICES};
+use crate::grid::Grid;
+use crate::row::VERTICES;
 
 /// A relation on the numbers below VERTICES: row x is the set of all y to which an edge leads from x.
-#[derive(Clone, Copy)]
-pub struct Graph {
-    rows: [Row; VERTICES],
-}
+pub type Graph = Grid<VERTICES>;
 
-impl Graph {
-    /// The graph with no edge.
-    pub fn new() -> Self
-        ensures { (x y : ℕ) → Joins result x y → ⊥ }
-    {
-        let rows = [Row::empty(); VERTICES];
-        Graph { rows }
-    }
-
-    /// Adds the edge from x to y; where one of them is no vertex, nothing changes.
-    pub fn add(&mut self, x: usize, y: usize)
-        ensures { (a b : ℕ) → Joins self.new a b ↔ (Joins self.old a b ⊎ ((a ≡ x) × (b ≡ y) × (x < vertices) × (y < vertices))) }
-    {
-        if x < VERTICES {
-            self.rows[x].insert(y);
-        }
-    }
-
-    /// Whether an edge leads from x to y.
-    pub fn has(&self, x: usize, y: usize) -> bool
-        ensures { T result ↔ Joins self.now x y }
-    {
-        x < VERTICES && self.rows[x].has(y)
-    }
-
+impl Grid<VERTICES> {
     /// The graph becomes its closure: an edge from x to y wherever one or more edges led from x to y.
     pub fn close(&mut self)
         ensures { (x y : ℕ) → Joins self.new x y ↔ Path⁺ (Joins self.old) x y }
@@ -46,20 +20,14 @@ impl Graph {
     }
 
     /// Adds an edge from x to y wherever one led from x to k, and one from k to y.
+    #[tactic(auto, unfolding(crate::specs::Grids::Marks))]
     fn join_through(&mut self, k: usize)
         requires { k < vertices }
         ensures { (x y : ℕ) → Joins self.new x y ↔ (Joins self.old x y ⊎ (Joins self.old x k × Joins self.old k y)) }
     {
         let via = self.rows[k];
         for row in self.rows.iter_mut() {
-            *row = widened(*row, via, k);
+            *row = if row.has(k) { row.joined(via) } else { *row };
         }
     }
-}
-
-/// The row, joined with `via` where it holds k.
-fn widened(row: Row, via: Row, k: usize) -> Row
-    ensures { (y : ℕ) → Holds result y ↔ (Holds row y ⊎ (Holds row k × Holds via y)) }
-{
-    if row.has(k) { row.joined(via) } else { row }
 }

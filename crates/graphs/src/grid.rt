@@ -1,23 +1,15 @@
+#![tactic(auto, unfolding(crate::specs::Grids::Marks))]
+
 ghost use Rattle.std.specs.Prelude.{◌≡◌, ℕ, ◌<◌, T, ◌⊎◌, ◌↔◌};
 ghost use Rattle.graphs.specs.Grids.{Marks};
 ghost use Rattle.graphs.specs.Rows.{vertices};
 
 use crate::row::Row;
-use std::alloc::AllocError;
 
 /// A set of pairs of a number below ROWS and a vertex: row i is the set of all x that are paired with i.
+#[derive(Clone, Copy)]
 pub struct Grid<const ROWS: usize> {
     pub(crate) rows: [Row; ROWS],
-}
-
-impl<const ROWS: usize> Copy for Grid<ROWS> {}
-
-impl<const ROWS: usize> Clone for Grid<ROWS> {
-    ghost is_clone = { λ a b. a ≡ b };
-
-    fn clone(&self) -> Result<Self, AllocError> {
-        Ok(*self)
-    }
 }
 
 impl<const ROWS: usize> Grid<ROWS> {
@@ -34,6 +26,7 @@ impl<const ROWS: usize> Grid<ROWS> {
     pub fn add(&mut self, i: usize, x: usize)
         ensures { (a b : ℕ) → Marks self.new a b ↔ (Marks self.old a b ⊎ ((a ≡ i) × (b ≡ x) × (i < ROWS) × (x < vertices))) }
     {
+        // by index: of a write through get_mut a proof learns nothing but the length
         if i < ROWS {
             self.rows[i].insert(x);
         }
@@ -43,6 +36,6 @@ impl<const ROWS: usize> Grid<ROWS> {
     pub fn has(&self, i: usize, x: usize) -> bool
         ensures { T result ↔ Marks self.now i x }
     {
-        i < ROWS && self.rows[i].has(x)
+        self.rows.get(i).is_some_and(|row| row.has(x))
     }
 }

@@ -1,6 +1,8 @@
 ghost use Rattle.std.specs.Prelude.{◌≡◌, ℕ, ◌<◌, T, ◌⊎◌, ◌↔◌};
 ghost use Rattle.graphs.specs.Rows.{Holds, vertices};
 
+use std::array;
+
 /// How many words of 64 bits a row has: the one place in the code that fixes a row's width.
 pub const WORDS: usize = 1;
 
@@ -15,6 +17,7 @@ pub struct Row {
 
 impl Row {
     /// The set of no vertex.
+    #[tactic(auto, unfolding(crate::specs::Rows::Holds, crate::specs::Rows::Has))]
     pub fn empty() -> Self
         ensures { (x : ℕ) → Holds result x → ⊥ }
     {
@@ -22,16 +25,21 @@ impl Row {
     }
 
     /// Whether x is in the set; beyond the width no number is.
+    #[tactic(auto, unfolding(crate::specs::Rows::Holds, crate::specs::Rows::Has))]
     pub fn has(&self, x: usize) -> bool
         ensures { T result ↔ Holds self.now x }
     {
-        x / 64 < WORDS && self.words[x / 64] >> (x % 64) & 1 == 1
+        self.words
+            .get(x / 64)
+            .is_some_and(|word| word >> (x % 64) & 1 == 1)
     }
 
     /// Adds x to the set; beyond the width nothing changes.
+    #[tactic(auto, using(crate::proofs::Rows::marked_has), unfolding(crate::specs::Rows::Holds))]
     pub fn insert(&mut self, x: usize)
         ensures { (y : ℕ) → Holds self.new y ↔ (Holds self.old y ⊎ ((y ≡ x) × (x < vertices))) }
     {
+        // by index: of a write through get_mut a proof learns nothing but the length
         if x / 64 < WORDS {
             self.words[x / 64] |= 1 << (x % 64);
         }
@@ -41,10 +49,8 @@ impl Row {
     pub fn joined(self, other: Row) -> Row
         ensures { (y : ℕ) → Holds result y ↔ (Holds self y ⊎ Holds other y) }
     {
-        let mut words = self.words;
-        for i in 0..WORDS {
-            words[i] |= other.words[i];
+        Row {
+            words: array::from_fn(|i| self.words[i] | other.words[i]),
         }
-        Row { words }
     }
 }

@@ -2,8 +2,7 @@
 use Rattle.std.proofs.Common.{ℕ, ◌<◌, ◌↔◌}
 use Rattle.model.specs.Paths.{Path⁺}
 use Rattle.model.specs.Specifications.{Spec, Edge, InRanges, Acyclic}
-use Rattle.graphs.specs.Graphs.{Joins}
-use Rattle.graphs.specs.declared.graph.Graph.{Graph}
+use Rattle.graphs.specs.Graphs.{Graph, Joins}
 use Rattle.graphs.proofs.Closing.{path⁺_map}
 use Rattle.rules.specs.Unsealed.{OnCycle}
 

@@ -3,9 +3,8 @@ use Rattle.std.proofs.Common.{◌≡◌, ℕ, ◌+◌, ◌<◌, T, ◌⊎◌, �
 use Rattle.std.proofs.lemmas.Bool.{cases_eq}
 use Rattle.formats.specs.Specifications.{listed}
 use Rattle.records.specs.declared.kinds.SpecEdge.{SpecEdge}
-use Rattle.graphs.specs.Graphs.{Joins}
+use Rattle.graphs.specs.Graphs.{Graph, Joins}
 use Rattle.graphs.specs.Rows.{Holds, vertices}
-use Rattle.graphs.specs.declared.graph.Graph.{Graph}
 use Rattle.graphs.specs.declared.row.Row.{Row}
 use Rattle.rules.specs.Parts.{tail_at, head_at}
 use Rattle.rules.proofs.Ranges.{listed_at, at_listed}

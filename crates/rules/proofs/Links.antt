@@ -7,9 +7,8 @@ use Rattle.formats.specs.Specifications.{no_edge, listed}
 use Rattle.records.specs.declared.kinds.SpecEdge.{SpecEdge}
 use Rattle.graphs.proofs.Closing.{path⁺_map}
 use Rattle.graphs.proofs.Rows.{holds_range}
-use Rattle.graphs.specs.Graphs.{Joins}
+use Rattle.graphs.specs.Graphs.{Graph, Joins}
 use Rattle.graphs.specs.Rows.{Holds, vertices}
-use Rattle.graphs.specs.declared.graph.Graph.{Graph}
 use Rattle.graphs.specs.declared.row.Row.{Row}
 use Rattle.rules.proofs.Ranges.{listed_at, at_listed}
 

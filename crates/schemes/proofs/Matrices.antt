@@ -6,8 +6,7 @@ use Rattle.records.specs.Tables.{kept}
 use Rattle.records.specs.declared.kinds.Vertex.{Vertex}
 use Rattle.formats.specs.Of.{spec_of}
 use Rattle.formats.specs.declared.specification.Specification.{Specification}
-use Rattle.graphs.specs.declared.graph.Graph.{Graph}
-use Rattle.graphs.specs.Graphs.{Joins}
+use Rattle.graphs.specs.Graphs.{Graph, Joins}
 use Rattle.graphs.specs.Tests.{edge_test}
 use Rattle.graphs.proofs.Closing.{path⁺_map}
 use Rattle.graphs.proofs.Tests.{edge_test_law}

@@ -1,5 +1,5 @@
 use Rattle.std.proofs.Common.{◌≡◌, ◌+◌, length, sym, subst, arith}
-use Rattle.graphs.specs.declared.graph.Graph.{Graph}
+use Rattle.graphs.specs.Graphs.{Graph}
 use Rattle.rules.proofs.Links.{Linking, linking_none, linking_put, linking_skip, linking_all}
 use Rattle.rules.proofs.parts.Parts.links.Goals as goal
 use Rattle.rules.proofs.parts.Parts.links.Goals.{then-has+then-has-2, else-has, else-has-via-then-has+else-has-2, else-has-via-else-has}
