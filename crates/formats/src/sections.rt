@@ -14,7 +14,7 @@ pub(crate) fn word_at(bytes: &[u8], at: usize) -> u16
     requires { at + 1 < length bytes.now }
     ensures { result ≡ word bytes.now at }
 {
-    bytes[at] as u16 + 256 * bytes[at + 1] as u16
+    u16::from_le_bytes([bytes[at], bytes[at + 1]])
 }
 
 /// A section of one kind of record, read where it lies: `count` records from byte `base`.
@@ -76,21 +76,20 @@ impl<'a, R> Section<'a, R> {
         requires { (0 < i) × (i < self.count) }
         ensures { T result ↔ Ascends self.entry.bytes.now self.entry.base self.entry.count i }
     {
-        let tail = self.first(i);
-        let before = self.first(i - 1);
-        before < tail || before == tail && self.second(i - 1) < self.second(i)
+        (self.first(i - 1), self.second(i - 1)) < (self.first(i), self.second(i))
     }
 
     /// The byte position of the first record that is not above the record before it.
     pub fn unordered(self) -> Option<usize>
         ensures { MatchOption result (Ascending self.entry.bytes.now self.entry.base self.entry.count) (Lowest (Unordered self.entry.bytes.now self.entry.base self.entry.count)) }
     {
-        for i in 1..self.count {
-            if !self.ascends(i) {
-                return Some(self.base + 2 * i as usize);
-            }
-        }
-        None
+        (1..self.count)
+            .find(
+                |&i|
+                    requires { (0 < i) × (i < self.count) }
+                { !self.ascends(i) },
+            )
+            .map(|i| self.base + 2 * i as usize)
     }
 }
 
@@ -140,12 +139,13 @@ impl<'a, R: Record> Section<'a, R> {
     pub fn outside(self, bounds: Bounds) -> Option<usize>
         ensures { MatchOption result (Inside R.Record.kind bounds self.entry.bytes.now self.entry.base self.entry.count) (Lowest (Outside R.Record.kind bounds self.entry.bytes.now self.entry.base self.entry.count)) }
     {
-        for k in 0..2 * self.count as u32 {
-            if !self.fits(bounds, k) {
-                return Some(self.base + 2 * k as usize);
-            }
-        }
-        None
+        (0..2 * self.count as u32)
+            .find(
+                |&k|
+                    requires { k < 2 * self.count }
+                { !self.fits(bounds, k) },
+            )
+            .map(|k| self.base + 2 * k as usize)
     }
 
     /// All records, copied to a table.
