@@ -84,11 +84,7 @@ impl<'a, R> Section<'a, R> {
         ensures { MatchOption result (Ascending self.entry.bytes.now self.entry.base self.entry.count) (Lowest (Unordered self.entry.bytes.now self.entry.base self.entry.count)) }
     {
         (1..self.count)
-            .find(
-                |&i|
-                    requires { (0 < i) × (i < self.count) }
-                { !self.ascends(i) },
-            )
+            .find(|&i| !self.ascends(i))
             .map(|i| self.base + 2 * i as usize)
     }
 }
@@ -140,11 +136,7 @@ impl<'a, R: Record> Section<'a, R> {
         ensures { MatchOption result (Inside R.Record.kind bounds self.entry.bytes.now self.entry.base self.entry.count) (Lowest (Outside R.Record.kind bounds self.entry.bytes.now self.entry.base self.entry.count)) }
     {
         (0..2 * self.count as u32)
-            .find(
-                |&k|
-                    requires { k < 2 * self.count }
-                { !self.fits(bounds, k) },
-            )
+            .find(|&k| !self.fits(bounds, k))
             .map(|k| self.base + 2 * k as usize)
     }
 
