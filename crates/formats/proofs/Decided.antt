@@ -8,7 +8,6 @@ use Rattle.formats.specs.RunFiles.{run_format, RunInside, RunNumberOutside, of_c
 use Rattle.formats.specs.Sections.{Lowest, Unordered}
 use Rattle.formats.specs.SpecFiles.{spec_format, AllInside, NumberOutside, of_edges, of_vertices, of_nests, of_ends}
 use Rattle.formats.specs.declared.faults.Fault.{Fault}
-use Rattle.formats.proofs.AsFormat.{accepted_to_format, refused_to_format}
 use Rattle.formats.proofs.Ranges.{none_outside}
 
 pub lowest_one : (P : ℕ → Type 0) {p q : ℕ} → Lowest P p → Lowest P q → p ≡ q
@@ -84,14 +83,8 @@ run_in a (of_copies o) = none_outside a.copies_inside o
 run_in a (of_steps o) = none_outside a.steps_inside o
 run_in a (of_run_edges o) = none_outside a.run_edges_inside o
 
-spec_decided : (bytes : List ℕ) → DecidedOf spec_format bytes
-spec_decided bytes = decided spec_format bytes (λ p. spec_in)
-
 pub reading_law : ReadingLaw
-reading_law bytes = record {
-  never_both = λ a f r. (spec_decided bytes).never_both (accepted_to_format a) f (refused_to_format r);
-  one_fault = λ f g r q. (spec_decided bytes).one_fault f g (refused_to_format r) (refused_to_format q);
-}
+reading_law bytes = decided spec_format bytes (λ p. spec_in)
 
 pub run_reading_law : RunReadingLaw
 run_reading_law n b bytes = decided (run_format n b) bytes (λ p. run_in)

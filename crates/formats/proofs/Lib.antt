@@ -1,5 +1,4 @@
 pub mod Pairs
-pub mod AsFormat
 pub mod Found
 pub mod Ranges
 pub mod RunRanges

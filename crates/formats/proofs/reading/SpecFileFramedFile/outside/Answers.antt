@@ -1,6 +1,6 @@
 use Rattle.records.specs.Kinds.{ends_kind}
 use Rattle.formats.proofs.Ranges.{inside_as, lowest_as, found_as, lowest_edges, lowest_vertices, lowest_nests, file_done}
-use Rattle.formats.proofs.spec_file.SpecFile.outside.Goals as goal
+use Rattle.formats.proofs.reading.SpecFileFramedFile.outside.Goals as goal
 
 pub returns-in-Some : goal.returns-in-Some
 returns-in-Some c =
