@@ -69,7 +69,7 @@ module _ (t : Format) (bytes : List ℕ) (none : (p : ℕ) → t.AllIn bytes →
   both a (out_of_range b c) = none _ a.inside c.0
   both a (out_of_order b c d) = d.0.4 (a.ascending d.0.0 d.0.1 d.0.2)
 
-  pub decided : DecidedOf t bytes
+  decided : DecidedOf t bytes
   decided = record { never_both = λ a f. both a; one_fault = λ f g. one }
 
 spec_in : {bytes : List ℕ} {p : ℕ} → AllInside bytes → NumberOutside bytes p → ⊥

@@ -148,7 +148,7 @@ module _ (bytes : List ℕ) where
     ],
   )
 
-  pub lowest_ends : {p : ℕ} → EdgesIn → VerticesIn → NestsIn → Lowest EndsOut p → Lowest (NumberOutside bytes) p
+  lowest_ends : {p : ℕ} → EdgesIn → VerticesIn → NestsIn → Lowest EndsOut p → Lowest (NumberOutside bytes) p
   lowest_ends a b c l = (
     of_ends l.0,
     λ q h. elim [

@@ -16,6 +16,7 @@ pub(crate) struct Sizes {
 
 /// The sizes of a file, where it holds them, each is within the limits of its kind of record, and the file is as long as they say: it has
 /// a section for the first size, one for the second, and `thirds` for the third.
+#[tactic(auto, using(crate::proofs::Refusals::first_bad, crate::proofs::Refusals::second_bad, crate::proofs::Refusals::third_bad))]
 pub(crate) fn head<A: Record, B: Record, C: Record>(
     bytes: &[u8],
     thirds: u8,

@@ -56,6 +56,7 @@ impl<'a> RunFile<'a> {
     }
 
     /// How many copies the run has.
+    #[tactic(auto, using(crate::proofs::Rows::section_length))]
     pub fn copies(self) -> usize
         ensures { result ≡ length (copies_of self.entry.bytes.now) }
     {
@@ -63,6 +64,7 @@ impl<'a> RunFile<'a> {
     }
 
     /// How many steps it has.
+    #[tactic(auto, using(crate::proofs::Rows::section_length))]
     pub fn steps(self) -> usize
         ensures { result ≡ length (steps_of self.entry.bytes.now) }
     {
@@ -70,6 +72,7 @@ impl<'a> RunFile<'a> {
     }
 
     /// How many edges it lists.
+    #[tactic(auto, using(crate::proofs::Rows::section_length))]
     pub fn edges(self) -> usize
         ensures { result ≡ length (run_edges_of self.entry.bytes.now) }
     {

@@ -107,6 +107,7 @@ impl<'a, R: Record> Section<'a, R> {
     }
 
     /// The record numbered `i`; of zeros where there is none.
+    #[tactic(auto, using(crate::proofs::Rows::section_at, crate::proofs::Rows::section_past))]
     pub(crate) fn get(self, i: usize) -> R
         ensures { result ≡ slice_index_or (section R.Record.made self.entry.bytes.now self.entry.base self.entry.count) i (R.Record.made 0 0) }
     {

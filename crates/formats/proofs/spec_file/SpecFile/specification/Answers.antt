@@ -24,11 +24,3 @@ invariant_of-result c =
       nested = stated_nests framed inside es vs ns xs;
       ended = stated_ends framed inside es vs ns xs;
     }
-
-pub returns : goal.returns
-returns c = record {
-  states_edges = rows_as made_edge c.table-edges.ensures c.edges.ensures;
-  states_vertices = rows_as made_vertex c.table-vertices.ensures c.vertices.ensures;
-  states_nests = rows_as made_nest c.table-nests.ensures c.nests.ensures;
-  states_ends = rows_as made_ends c.table-ends.ensures c.ends.ensures;
-}
