@@ -24,6 +24,7 @@ pub(crate) trait FramedFile: Copy {
 }
 
 /// The file, where every number lies in its range and the edges ascend.
+#[tactic(auto, using(crate::specs::Files::out_of_range, crate::specs::Files::out_of_order))]
 pub(crate) fn checked<F: FramedFile>(file: F) -> Result<F, ReadingFault>
     ensures { MatchResult result (λ x. (x ≡ file) × AcceptedOf (F.format file) (F.content file)) (λ f. RefusedOf (F.format file) (F.content file) (reading_fault f)) }
 {

@@ -119,6 +119,7 @@ impl<'a, R: Record> Section<'a, R> {
     }
 
     /// Whether number `k` of the section lies in its range; all first numbers come before all second ones.
+    #[tactic(auto, using(crate::proofs::Ranges::told_first, crate::proofs::Ranges::told_second))]
     fn fits(self, bounds: Bounds, k: u32) -> bool
         requires { k < 2 * self.count }
         ensures { T result ↔ NumberWithin R.Record.kind bounds self.entry.bytes.now self.entry.base self.entry.count k }
