@@ -89,6 +89,7 @@ impl<'a> FramedFile for FramedRun<'a> {
 
     ghost framed = { λ file. file.framed };
 
+    #[tactic(auto, using(crate::proofs::RunRanges::run_done))]
     fn outside(self) -> Option<usize> {
         let bounds = self.bounds();
         if let Some(at) = self.copies().outside(bounds) {

@@ -122,6 +122,7 @@ impl<'a> FramedFile for SpecFile<'a> {
 
     ghost framed = { λ file. file.framed };
 
+    #[tactic(auto, using(crate::proofs::Ranges::file_done))]
     fn outside(self) -> Option<usize> {
         let bounds = self.bounds();
         if let Some(at) = self.edges().outside(bounds) {

@@ -26,6 +26,7 @@ pub struct Section<'a, R> {
     ghost inside: { base + 4 * count ≤ length bytes.now },
 }
 
+// by hand: a generic struct with a ghost field derives neither
 impl<'a, R> Copy for Section<'a, R> {}
 
 impl<'a, R> Clone for Section<'a, R> {
