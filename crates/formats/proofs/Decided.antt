@@ -8,7 +8,6 @@ use Rattle.formats.specs.RunFiles.{run_format, RunInside, RunNumberOutside, of_c
 use Rattle.formats.specs.Sections.{Lowest, Unordered}
 use Rattle.formats.specs.SpecFiles.{spec_format, AllInside, NumberOutside, of_edges, of_vertices, of_nests, of_ends}
 use Rattle.formats.specs.declared.faults.Fault.{Fault}
-use Rattle.formats.proofs.AsFormat.{accepted_to_format, refused_to_format}
 use Rattle.formats.proofs.Ranges.{none_outside}
 
 pub lowest_one : (P : ℕ → Type 0) {p q : ℕ} → Lowest P p → Lowest P q → p ≡ q
@@ -70,7 +69,7 @@ module _ (t : Format) (bytes : List ℕ) (none : (p : ℕ) → t.AllIn bytes →
   both a (out_of_range b c) = none _ a.inside c.0
   both a (out_of_order b c d) = d.0.4 (a.ascending d.0.0 d.0.1 d.0.2)
 
-  pub decided : DecidedOf t bytes
+  decided : DecidedOf t bytes
   decided = record { never_both = λ a f. both a; one_fault = λ f g. one }
 
 spec_in : {bytes : List ℕ} {p : ℕ} → AllInside bytes → NumberOutside bytes p → ⊥
@@ -84,14 +83,8 @@ run_in a (of_copies o) = none_outside a.copies_inside o
 run_in a (of_steps o) = none_outside a.steps_inside o
 run_in a (of_run_edges o) = none_outside a.run_edges_inside o
 
-spec_decided : (bytes : List ℕ) → DecidedOf spec_format bytes
-spec_decided bytes = decided spec_format bytes (λ p. spec_in)
-
 pub reading_law : ReadingLaw
-reading_law bytes = record {
-  never_both = λ a f r. (spec_decided bytes).never_both (accepted_to_format a) f (refused_to_format r);
-  one_fault = λ f g r q. (spec_decided bytes).one_fault f g (refused_to_format r) (refused_to_format q);
-}
+reading_law bytes = decided spec_format bytes (λ p. spec_in)
 
 pub run_reading_law : RunReadingLaw
 run_reading_law n b bytes = decided (run_format n b) bytes (λ p. run_in)

@@ -1,5 +1,5 @@
 pub mod Pairs
-pub mod AsFormat
+pub mod Found
 pub mod Ranges
 pub mod RunRanges
 pub mod Decided

@@ -84,11 +84,6 @@ module _ {k : Kind} {w w' : Bounds} {bytes bytes' : List ℕ} {base base' count 
   pub lowest_as : {p : ℕ} → Lowest (Outside k w bytes base count) p → Lowest (Outside k w' bytes' base' count') p
   lowest_as h = rw (← same_w, ← same_bytes, ← same_base, ← same_count) h
 
-pub found_as : (k : Kind) {w w' : Bounds} {bytes bytes' : List ℕ} {base base' count count' : ℕ} → w ≡ w' → bytes ≡ bytes' → base ≡ base' → count ≡ count' → (r : Option ℕ)
-    → MatchOption r (Inside k w bytes base count) (Lowest (Outside k w bytes base count)) → MatchOption r (Inside k w' bytes' base' count') (Lowest (Outside k w' bytes' base' count'))
-found_as k a b c d None h = inside_as a b c d h
-found_as k a b c d (Some p) h = lowest_as a b c d h
-
 -- section by section: those before hold nothing outside, and those after stand higher
 module _ (bytes : List ℕ) where
   abbrev EdgesOut : ℕ → Type 0
@@ -148,7 +143,7 @@ module _ (bytes : List ℕ) where
     ],
   )
 
-  pub lowest_ends : {p : ℕ} → EdgesIn → VerticesIn → NestsIn → Lowest EndsOut p → Lowest (NumberOutside bytes) p
+  lowest_ends : {p : ℕ} → EdgesIn → VerticesIn → NestsIn → Lowest EndsOut p → Lowest (NumberOutside bytes) p
   lowest_ends a b c l = (
     of_ends l.0,
     λ q h. elim [

@@ -1,5 +1,5 @@
 -- A section's rows, each at its place, and pushed to a table one by one.
-use Rattle.std.proofs.Common.{◌≡◌, ℕ, ◌+◌, ◌<◌, ◌≤◌, Bool, true, cond, ltb, List, [], ◌∷◌, ◌++◌, map, length, get_or, refl, ap, ◌∙◌, arith}
+use Rattle.std.proofs.Common.{◌≡◌, ℕ, ◌+◌, ◌<◌, ◌≤◌, Bool, true, cond, ltb, List, [], ◌∷◌, ◌++◌, map, length, get_or, ap, ◌∙◌, arith}
 use Rattle.std.specs.List.{range_with_len}
 use Rattle.std.proofs.lemmas.List.FromFn.{length-map-range_with_len, get_or-map-range_with_len, map-range_with_len_more}
 use Rattle.std.proofs.lemmas.List.{get_or_past}
@@ -23,16 +23,6 @@ rows_as made r e =
     let b = e.1 in
     let c = e.2 in
     r ∙ rw (a, b, c)
-
--- a record fetched from a section that is known under other names
-pub got_as : {R : Type 0} (made : ℕ → ℕ → R) (i : ℕ) (d : R) {x : R} {bytes bytes' : List ℕ} {base base' count count' : ℕ} → x ≡ get_or (section made bytes base count) i d
-    → (bytes ≡ bytes') × (base ≡ base') × (count ≡ count') → x ≡ get_or (section made bytes' base' count') i d
-got_as made i d r e = r ∙ ap (λ rows. get_or rows i d) (rows_as made refl e)
-
--- where the section's own names are those of a file that is known under another name
-pub names_as : (from_at count_at : List ℕ → ℕ) {file bytes bytes' : List ℕ} {base count : ℕ} → file ≡ bytes' → (bytes ≡ file) × (base ≡ from_at file) × (count ≡ count_at file)
-    → (bytes ≡ bytes') × (base ≡ from_at bytes') × (count ≡ count_at bytes')
-names_as from_at count_at same e = (e.0 ∙ same, e.1 ∙ ap from_at same, e.2 ∙ ap count_at same)
 
 -- a table of `limit` places that holds the first i rows takes the next
 pub row_more : {R : Type 0} (row : ℕ → R) (i limit : ℕ) {len len' : ℕ} {pushed : Bool} {rows rows' : List R} {x : R}

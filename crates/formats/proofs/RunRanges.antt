@@ -45,7 +45,7 @@ module _ (n b : ℕ) (bytes : List ℕ) where
     ],
   )
 
-  pub lowest_run_edges : {p : ℕ} → CopiesIn → StepsIn → Lowest EdgesOut p → Lowest (RunNumberOutside n b bytes) p
+  lowest_run_edges : {p : ℕ} → CopiesIn → StepsIn → Lowest EdgesOut p → Lowest (RunNumberOutside n b bytes) p
   lowest_run_edges a s l = (
     of_run_edges l.0,
     λ q h. elim [

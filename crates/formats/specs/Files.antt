@@ -1,5 +1,5 @@
 -- Files of any format: three sizes and then sections, and why one is refused.
-use Rattle.std.specs.Prelude.{◌≡◌, ℕ, ◌<◌, ◌≤◌, ◌≢◌, List, length}
+use Rattle.std.specs.Prelude.{◌≡◌, ℕ, ◌+◌, ◌*◌, ◌<◌, ◌≤◌, ◌≢◌, List, length}
 use Rattle.records.specs.Kinds.{Kind, Fits}
 use Rattle.formats.specs.Sections.{Lowest, Ascending, Unordered}
 use Rattle.formats.specs.Words.{word}
@@ -29,13 +29,17 @@ pub data BadSizeOf (j k l : Kind) (bytes : List ℕ) : ℕ → Type 0 where
   bad_second : Fits j (word bytes 0) → (¬ (Fits k (word bytes 2))) → BadSizeOf j k l bytes 1
   bad_third : Fits j (word bytes 0) → Fits k (word bytes 2) → (¬ (Fits l (word bytes 4))) → BadSizeOf j k l bytes 2
 
--- which of the first two checks refuses: that the file holds its sizes, and that these are within their limits
-abbrev pub HeadRefused : Kind → Kind → Kind → List ℕ → ReadingFault → Type 0
-HeadRefused j k l bytes (Short present) = (present ≡ length bytes) × (length bytes < 6)
-HeadRefused j k l bytes (Size which) = (6 ≤ length bytes) × BadSizeOf j k l bytes which
-HeadRefused j k l bytes (Length needed) = ⊥
-HeadRefused j k l bytes (Range at) = ⊥
-HeadRefused j k l bytes (Order at) = ⊥
+-- how long a file is that has a section for its first size, one for its second, and `thirds` for its third: two bytes a number, two numbers a record
+abbrev pub length_of : ℕ → List ℕ → ℕ
+length_of thirds bytes = 6 + 4 * (word bytes 0 + word bytes 2 + thirds * word bytes 4)
+
+-- which of the first three checks refuses: that the file holds its sizes, that these are within their limits, and that it is as long as they say
+abbrev pub HeadRefused : Kind → Kind → Kind → ℕ → List ℕ → ReadingFault → Type 0
+HeadRefused j k l thirds bytes (Short present) = (present ≡ length bytes) × (length bytes < 6)
+HeadRefused j k l thirds bytes (Size which) = (6 ≤ length bytes) × BadSizeOf j k l bytes which
+HeadRefused j k l thirds bytes (Length needed) = (6 ≤ length bytes) × SizesFitOf j k l bytes × (needed ≡ length_of thirds bytes) × (length bytes ≢ needed)
+HeadRefused j k l thirds bytes (Range at) = ⊥
+HeadRefused j k l thirds bytes (Order at) = ⊥
 
 -- the file holds its sizes, these are within their limits, and it is as long as they say
 abbrev pub FramedOf : Format → List ℕ → Type 0

@@ -1,9 +1,9 @@
-ghost use Rattle.std.specs.Prelude.{◌≡◌, ℕ, MatchOption, MatchResult};
+ghost use Rattle.std.specs.Prelude.{◌≡◌, MatchResult};
 ghost use Rattle.formats.specs.Faults.{reading_fault};
-ghost use Rattle.formats.specs.Sections.{Ascending, Lowest};
-ghost use Rattle.formats.specs.RunFiles.{c_of, v_of, e_of, copies_from, steps_from, run_edges_from, run_bounds, RunFramed, RunInside, RunNumberOutside, RunRefused};
+ghost use Rattle.formats.specs.RunFiles.{c_of, v_of, e_of, copies_from, steps_from, run_edges_from, run_bounds, run_format, RunAccepted, RunRefused};
 
 use crate::faults::ReadingFault;
+use crate::framed_file::FramedFile;
 use crate::framed_run::FramedRun;
 use crate::heads::{Sizes, head};
 use crate::run_file::RunFile;
@@ -11,52 +11,24 @@ use crate::sections::Section;
 use records::kinds::{RunCopy, RunEdge, Step};
 use records::record::Bounds;
 
-/// The three sizes of a run file.
-#[derive(Clone, Copy)]
-pub(crate) struct RunSizes {
-    pub(crate) copies: u16,
-    pub(crate) steps: u16,
-    pub(crate) edges: u16,
-}
-
-/// The sizes of a file, where they are within their limits and the file is as long as they say.
-pub(crate) fn run_sizes(bytes: &[u8]) -> Result<RunSizes, ReadingFault>
-    ensures { MatchResult result (λ z. RunFramed bytes.now × (z.copies ≡ c_of bytes.now) × (z.steps ≡ v_of bytes.now) × (z.edges ≡ e_of bytes.now)) (λ f. (n b : ℕ) → RunRefused n b bytes.now (reading_fault f)) }
-{
-    let Sizes {
-        first: copies,
-        second: steps,
-        third: edges,
-    } = head::<RunCopy, Step, RunEdge>(bytes)?;
-    let needed = 6 + 4 * (copies as usize + steps as usize + edges as usize);
-    if bytes.len() != needed {
-        return Err(ReadingFault::Length { needed });
-    }
-    Ok(RunSizes {
-        copies,
-        steps,
-        edges,
-    })
-}
-
 impl<'a> FramedRun<'a> {
-    /// The file with the sizes that were read from it.
-    pub(crate) fn new(bytes: &'a [u8], sizes: RunSizes) -> Self
-        requires run_framed { RunFramed bytes.now }
-        requires copies_value { (sizes.copies ≡ c_of bytes.now) × (sizes.steps ≡ v_of bytes.now) × (sizes.edges ≡ e_of bytes.now) }
-        ensures { result.bytes.now ≡ bytes.now }
+    /// The file, where its sizes are within their limits and it is as long as they say.
+    pub(crate) fn framed(bytes: &'a [u8], vertices: u16, blocks: u16) -> Result<Self, ReadingFault>
+        ensures { MatchResult result (λ x. (x.bytes.now ≡ bytes.now) × (x.vertices ≡ vertices) × (x.blocks ≡ blocks)) (λ f. RunRefused vertices blocks bytes.now (reading_fault f)) }
     {
-        let RunSizes {
-            copies,
-            steps,
-            edges,
-        } = sizes;
-        FramedRun {
+        let Sizes {
+            first: copies,
+            second: steps,
+            third: edges,
+        } = head::<RunCopy, Step, RunEdge>(bytes, 1)?;
+        Ok(FramedRun {
             bytes,
             copies,
             steps,
             edges,
-        }
+            vertices,
+            blocks,
+        })
     }
 
     /// The sections, in the order in which they stand.
@@ -82,23 +54,44 @@ impl<'a> FramedRun<'a> {
         )
     }
 
-    /// What the numbers of the sections are held against, in a run of a specification with so many vertices and blocks.
-    fn bounds(self, vertices: u16, blocks: u16) -> Bounds
-        ensures { result ≡ run_bounds vertices blocks self.entry.bytes.now }
+    /// What the numbers of the sections are held against.
+    fn bounds(self) -> Bounds
+        ensures { result ≡ run_bounds self.entry.vertices self.entry.blocks self.entry.bytes.now }
     {
         Bounds {
-            vertices,
-            blocks,
+            vertices: self.vertices,
+            blocks: self.blocks,
             copies: self.copies,
             steps: self.steps,
         }
     }
 
-    /// The lowest byte position of a number outside its range, in any section.
-    pub(crate) fn outside(self, vertices: u16, blocks: u16) -> Option<usize>
-        ensures { MatchOption result (RunInside vertices blocks self.entry.bytes.now) (Lowest (RunNumberOutside vertices blocks self.entry.bytes.now)) }
+    /// The file opened, where nothing is left to refuse it.
+    pub(crate) fn opened(self) -> RunFile<'a>
+        requires { RunAccepted self.vertices self.blocks self.bytes.now }
+        ensures { (result.bytes.now ≡ self.entry.bytes.now) × (result.vertices ≡ self.entry.vertices) × (result.blocks ≡ self.entry.blocks) }
     {
-        let bounds = self.bounds(vertices, blocks);
+        RunFile {
+            bytes: self.bytes,
+            copies: self.copies,
+            steps: self.steps,
+            edges: self.edges,
+            vertices: self.vertices,
+            blocks: self.blocks,
+        }
+    }
+}
+
+impl<'a> FramedFile for FramedRun<'a> {
+    ghost format = { λ file. run_format file.vertices file.blocks };
+
+    ghost content = { λ file. file.bytes.now };
+
+    ghost framed = { λ file. file.framed };
+
+    #[tactic(auto, using(crate::proofs::RunRanges::run_done))]
+    fn outside(self) -> Option<usize> {
+        let bounds = self.bounds();
         if let Some(at) = self.copies().outside(bounds) {
             return Some(at);
         }
@@ -108,19 +101,7 @@ impl<'a> FramedRun<'a> {
         self.edges().outside(bounds)
     }
 
-    /// The file opened, where nothing is left to refuse it.
-    pub(crate) fn opened(self, vertices: u16, blocks: u16) -> RunFile<'a>
-        requires run_inside { RunInside vertices blocks self.bytes.now }
-        requires ascending { Ascending self.bytes.now (run_edges_from self.bytes.now) (e_of self.bytes.now) }
-        ensures { (result.bytes.now ≡ self.entry.bytes.now) × (result.vertices ≡ vertices) × (result.blocks ≡ blocks) }
-    {
-        RunFile {
-            bytes: self.bytes,
-            copies: self.copies,
-            steps: self.steps,
-            edges: self.edges,
-            vertices,
-            blocks,
-        }
+    fn unordered(self) -> Option<usize> {
+        self.edges().unordered()
     }
 }

@@ -1,5 +1,5 @@
 ghost use Rattle.std.specs.Prelude.{◌≡◌, ◌≤◌, length, MatchResult};
-ghost use Rattle.formats.specs.Files.{HeadRefused, SizesFitOf};
+ghost use Rattle.formats.specs.Files.{HeadRefused, SizesFitOf, length_of};
 ghost use Rattle.formats.specs.Words.{word};
 
 use crate::faults::ReadingFault;
@@ -14,9 +14,14 @@ pub(crate) struct Sizes {
     pub(crate) third: u16,
 }
 
-/// The sizes of a file, where it holds them and each is within the limits of its kind of record.
-pub(crate) fn head<A: Record, B: Record, C: Record>(bytes: &[u8]) -> Result<Sizes, ReadingFault>
-    ensures { MatchResult result (λ z. (6 ≤ length bytes.now) × SizesFitOf A.Record.kind B.Record.kind C.Record.kind bytes.now × (z.first ≡ word bytes.now 0) × (z.second ≡ word bytes.now 2) × (z.third ≡ word bytes.now 4)) (HeadRefused A.Record.kind B.Record.kind C.Record.kind bytes.now) }
+/// The sizes of a file, where it holds them, each is within the limits of its kind of record, and the file is as long as they say: it has
+/// a section for the first size, one for the second, and `thirds` for the third.
+#[tactic(auto, using(crate::proofs::Refusals::first_bad, crate::proofs::Refusals::second_bad, crate::proofs::Refusals::third_bad))]
+pub(crate) fn head<A: Record, B: Record, C: Record>(
+    bytes: &[u8],
+    thirds: u8,
+) -> Result<Sizes, ReadingFault>
+    ensures { MatchResult result (λ z. (6 ≤ length bytes.now) × SizesFitOf A.Record.kind B.Record.kind C.Record.kind bytes.now × (length bytes.now ≡ length_of thirds bytes.now) × (z.first ≡ word bytes.now 0) × (z.second ≡ word bytes.now 2) × (z.third ≡ word bytes.now 4)) (HeadRefused A.Record.kind B.Record.kind C.Record.kind thirds bytes.now) }
 {
     if bytes.len() < 6 {
         return Err(ReadingFault::Short {
@@ -34,6 +39,10 @@ pub(crate) fn head<A: Record, B: Record, C: Record>(bytes: &[u8]) -> Result<Size
     }
     if !Section::<C>::may_have(third) {
         return Err(ReadingFault::Size { which: 2 });
+    }
+    let needed = 6 + 4 * (first as usize + second as usize + thirds as usize * third as usize);
+    if bytes.len() != needed {
+        return Err(ReadingFault::Length { needed });
     }
     Ok(Sizes {
         first,

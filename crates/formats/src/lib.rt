@@ -3,6 +3,7 @@
 
 pub mod contents;
 pub mod faults;
+mod framed_file;
 mod framed_run;
 mod framing;
 mod heads;

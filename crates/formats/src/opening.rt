@@ -4,8 +4,8 @@ ghost use Rattle.formats.specs.RunFiles.{copies_of, steps_of, run_edges_of, RunA
 ghost use Rattle.formats.specs.Runs.{no_copy, no_step, no_run_edge};
 
 use crate::faults::ReadingFault;
+use crate::framed_file::checked;
 use crate::framed_run::FramedRun;
-use crate::framing::run_sizes;
 use crate::run_file::RunFile;
 use records::kinds::{RunCopy, RunEdge, Step};
 
@@ -36,15 +36,8 @@ impl<'a> RunFile<'a> {
     ) -> Result<(), ReadingFault>
         ensures { MatchResult result (λ _. RunAccepted vertices blocks bytes.now × (place.new.bytes.now ≡ bytes.now) × (place.new.vertices ≡ vertices) × (place.new.blocks ≡ blocks)) (λ f. RunRefused vertices blocks bytes.now (reading_fault f) × (place.new ≡ place.old)) }
     {
-        let sizes = run_sizes(bytes)?;
-        let run = FramedRun::new(bytes, sizes);
-        if let Some(at) = run.outside(vertices, blocks) {
-            return Err(ReadingFault::Range { at });
-        }
-        if let Some(at) = run.edges().unordered() {
-            return Err(ReadingFault::Order { at });
-        }
-        *place = run.opened(vertices, blocks);
+        let run = checked(FramedRun::framed(bytes, vertices, blocks)?)?;
+        *place = run.opened();
         Ok(())
     }
 
@@ -57,10 +50,13 @@ impl<'a> RunFile<'a> {
             copies: self.copies,
             steps: self.steps,
             edges: self.edges,
+            vertices: self.vertices,
+            blocks: self.blocks,
         }
     }
 
     /// How many copies the run has.
+    #[tactic(auto, using(crate::proofs::Rows::section_length))]
     pub fn copies(self) -> usize
         ensures { result ≡ length (copies_of self.entry.bytes.now) }
     {
@@ -68,6 +64,7 @@ impl<'a> RunFile<'a> {
     }
 
     /// How many steps it has.
+    #[tactic(auto, using(crate::proofs::Rows::section_length))]
     pub fn steps(self) -> usize
         ensures { result ≡ length (steps_of self.entry.bytes.now) }
     {
@@ -75,6 +72,7 @@ impl<'a> RunFile<'a> {
     }
 
     /// How many edges it lists.
+    #[tactic(auto, using(crate::proofs::Rows::section_length))]
     pub fn edges(self) -> usize
         ensures { result ≡ length (run_edges_of self.entry.bytes.now) }
     {

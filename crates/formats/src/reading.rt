@@ -1,9 +1,10 @@
 ghost use Rattle.std.specs.Prelude.{◌≡◌, MatchOption, MatchResult};
 ghost use Rattle.formats.specs.Faults.{reading_fault};
 ghost use Rattle.formats.specs.Sections.{Lowest};
-ghost use Rattle.formats.specs.SpecFiles.{n_of, m_of, b_of, edges_from, vertices_from, nests_from, ends_from, Framed, AllInside, NumberOutside, Refused, Accepted, States, spec_bounds};
+ghost use Rattle.formats.specs.SpecFiles.{n_of, m_of, b_of, edges_from, vertices_from, nests_from, ends_from, AllInside, Framed, Refused, Accepted, States, spec_bounds, spec_format};
 
 use crate::faults::ReadingFault;
+use crate::framed_file::{FramedFile, checked};
 use crate::heads::{Sizes, head};
 use crate::sections::Section;
 use crate::spec_file::SpecFile;
@@ -23,53 +24,42 @@ pub struct SpecSizes {
 pub fn sizes(bytes: &[u8]) -> Result<SpecSizes, ReadingFault>
     ensures { MatchResult result (λ z. Framed bytes.now × (z.vertices ≡ n_of bytes.now) × (z.edges ≡ m_of bytes.now) × (z.blocks ≡ b_of bytes.now)) (λ e. Refused bytes.now (reading_fault e) × (¬ (Framed bytes.now))) }
 {
-    let Sizes {
-        first: vertices,
-        second: edges,
-        third: blocks,
-    } = head::<Vertex, SpecEdge, Nest>(bytes)?;
-    let needed = 6 + 4 * (edges as usize + vertices as usize + 2 * blocks as usize);
-    if bytes.len() != needed {
-        return Err(ReadingFault::Length { needed });
-    }
-    Ok(SpecSizes {
-        vertices,
-        edges,
-        blocks,
-    })
+    Ok(SpecFile::framed(bytes)?.sizes)
 }
 
 impl<'a> SpecFile<'a> {
-    /// The file with the sizes that were read from it.
-    fn new(bytes: &'a [u8], sizes: SpecSizes) -> Self
-        requires framed { Framed bytes.now }
-        requires vertices_value { (sizes.vertices ≡ n_of bytes.now) × (sizes.edges ≡ m_of bytes.now) × (sizes.blocks ≡ b_of bytes.now) }
-        ensures { result.bytes.now ≡ bytes.now }
+    /// The file, where its sizes are within their limits and it is as long as they say.
+    fn framed(bytes: &'a [u8]) -> Result<Self, ReadingFault>
+        ensures { MatchResult result (λ x. x.bytes.now ≡ bytes.now) (λ f. Refused bytes.now (reading_fault f) × (¬ (Framed bytes.now))) }
     {
-        let SpecSizes {
+        let Sizes {
+            first: vertices,
+            second: edges,
+            third: blocks,
+        } = head::<Vertex, SpecEdge, Nest>(bytes, 2)?;
+        let sizes = SpecSizes {
             vertices,
             edges,
             blocks,
-        } = sizes;
-        SpecFile {
-            bytes,
-            vertices,
-            edges,
-            blocks,
-        }
+        };
+        Ok(SpecFile { bytes, sizes })
     }
 
     /// The sections, in the order in which they stand.
     fn edges(self) -> Section<'a, SpecEdge>
         ensures { (result.bytes.now ≡ self.entry.bytes.now) × (result.base ≡ edges_from self.entry.bytes.now) × (result.count ≡ m_of self.entry.bytes.now) }
     {
-        Section::new(self.bytes, 6, self.edges)
+        Section::new(self.bytes, 6, self.sizes.edges)
     }
 
     fn vertices(self) -> Section<'a, Vertex>
         ensures { (result.bytes.now ≡ self.entry.bytes.now) × (result.base ≡ vertices_from self.entry.bytes.now) × (result.count ≡ n_of self.entry.bytes.now) }
     {
-        Section::new(self.bytes, 6 + 4 * self.edges as usize, self.vertices)
+        Section::new(
+            self.bytes,
+            6 + 4 * self.sizes.edges as usize,
+            self.sizes.vertices,
+        )
     }
 
     fn nests(self) -> Section<'a, Nest>
@@ -77,8 +67,8 @@ impl<'a> SpecFile<'a> {
     {
         Section::new(
             self.bytes,
-            6 + 4 * (self.edges as usize + self.vertices as usize),
-            self.blocks,
+            6 + 4 * (self.sizes.edges as usize + self.sizes.vertices as usize),
+            self.sizes.blocks,
         )
     }
 
@@ -87,8 +77,11 @@ impl<'a> SpecFile<'a> {
     {
         Section::new(
             self.bytes,
-            6 + 4 * (self.edges as usize + self.vertices as usize + self.blocks as usize),
-            self.blocks,
+            6 + 4
+                * (self.sizes.edges as usize
+                    + self.sizes.vertices as usize
+                    + self.sizes.blocks as usize),
+            self.sizes.blocks,
         )
     }
 
@@ -97,28 +90,11 @@ impl<'a> SpecFile<'a> {
         ensures { result ≡ spec_bounds self.entry.bytes.now }
     {
         Bounds {
-            vertices: self.vertices,
-            blocks: self.blocks,
+            vertices: self.sizes.vertices,
+            blocks: self.sizes.blocks,
             copies: 0,
             steps: 0,
         }
-    }
-
-    /// The lowest byte position of a number outside its range, in any section.
-    fn outside(self) -> Option<usize>
-        ensures { MatchOption result (AllInside self.entry.bytes.now) (Lowest (NumberOutside self.entry.bytes.now)) }
-    {
-        let bounds = self.bounds();
-        if let Some(at) = self.edges().outside(bounds) {
-            return Some(at);
-        }
-        if let Some(at) = self.vertices().outside(bounds) {
-            return Some(at);
-        }
-        if let Some(at) = self.nests().outside(bounds) {
-            return Some(at);
-        }
-        self.ends().outside(bounds)
     }
 
     /// The specification that the file states.
@@ -139,18 +115,38 @@ impl<'a> SpecFile<'a> {
     }
 }
 
+impl<'a> FramedFile for SpecFile<'a> {
+    ghost format = { λ _. spec_format };
+
+    ghost content = { λ file. file.bytes.now };
+
+    ghost framed = { λ file. file.framed };
+
+    #[tactic(auto, using(crate::proofs::Ranges::file_done))]
+    fn outside(self) -> Option<usize> {
+        let bounds = self.bounds();
+        if let Some(at) = self.edges().outside(bounds) {
+            return Some(at);
+        }
+        if let Some(at) = self.vertices().outside(bounds) {
+            return Some(at);
+        }
+        if let Some(at) = self.nests().outside(bounds) {
+            return Some(at);
+        }
+        self.ends().outside(bounds)
+    }
+
+    fn unordered(self) -> Option<usize> {
+        self.edges().unordered()
+    }
+}
+
 /// The specification that a file states, where none of the checks refuses it.
 fn stated(bytes: &[u8]) -> Result<Specification, ReadingFault>
     ensures { MatchResult result (λ s. Accepted bytes.now × States bytes.now s) (λ f. Refused bytes.now (reading_fault f)) }
 {
-    let sizes = sizes(bytes)?;
-    let file = SpecFile::new(bytes, sizes);
-    if let Some(at) = file.outside() {
-        return Err(ReadingFault::Range { at });
-    }
-    if let Some(at) = file.edges().unordered() {
-        return Err(ReadingFault::Order { at });
-    }
+    let file = checked(SpecFile::framed(bytes)?)?;
     Ok(file.specification())
 }
 

@@ -14,7 +14,7 @@ pub(crate) fn word_at(bytes: &[u8], at: usize) -> u16
     requires { at + 1 < length bytes.now }
     ensures { result ≡ word bytes.now at }
 {
-    bytes[at] as u16 + 256 * bytes[at + 1] as u16
+    u16::from_le_bytes([bytes[at], bytes[at + 1]])
 }
 
 /// A section of one kind of record, read where it lies: `count` records from byte `base`.
@@ -26,6 +26,7 @@ pub struct Section<'a, R> {
     ghost inside: { base + 4 * count ≤ length bytes.now },
 }
 
+// by hand: a generic struct with a ghost field derives neither
 impl<'a, R> Copy for Section<'a, R> {}
 
 impl<'a, R> Clone for Section<'a, R> {
@@ -76,21 +77,16 @@ impl<'a, R> Section<'a, R> {
         requires { (0 < i) × (i < self.count) }
         ensures { T result ↔ Ascends self.entry.bytes.now self.entry.base self.entry.count i }
     {
-        let tail = self.first(i);
-        let before = self.first(i - 1);
-        before < tail || before == tail && self.second(i - 1) < self.second(i)
+        (self.first(i - 1), self.second(i - 1)) < (self.first(i), self.second(i))
     }
 
     /// The byte position of the first record that is not above the record before it.
     pub fn unordered(self) -> Option<usize>
         ensures { MatchOption result (Ascending self.entry.bytes.now self.entry.base self.entry.count) (Lowest (Unordered self.entry.bytes.now self.entry.base self.entry.count)) }
     {
-        for i in 1..self.count {
-            if !self.ascends(i) {
-                return Some(self.base + 2 * i as usize);
-            }
-        }
-        None
+        (1..self.count)
+            .find(|&i| !self.ascends(i))
+            .map(|i| self.base + 2 * i as usize)
     }
 }
 
@@ -112,6 +108,7 @@ impl<'a, R: Record> Section<'a, R> {
     }
 
     /// The record numbered `i`; of zeros where there is none.
+    #[tactic(auto, using(crate::proofs::Rows::section_at, crate::proofs::Rows::section_past))]
     pub(crate) fn get(self, i: usize) -> R
         ensures { result ≡ slice_index_or (section R.Record.made self.entry.bytes.now self.entry.base self.entry.count) i (R.Record.made 0 0) }
     {
@@ -123,6 +120,7 @@ impl<'a, R: Record> Section<'a, R> {
     }
 
     /// Whether number `k` of the section lies in its range; all first numbers come before all second ones.
+    #[tactic(auto, using(crate::proofs::Ranges::told_first, crate::proofs::Ranges::told_second))]
     fn fits(self, bounds: Bounds, k: u32) -> bool
         requires { k < 2 * self.count }
         ensures { T result ↔ NumberWithin R.Record.kind bounds self.entry.bytes.now self.entry.base self.entry.count k }
@@ -140,12 +138,9 @@ impl<'a, R: Record> Section<'a, R> {
     pub fn outside(self, bounds: Bounds) -> Option<usize>
         ensures { MatchOption result (Inside R.Record.kind bounds self.entry.bytes.now self.entry.base self.entry.count) (Lowest (Outside R.Record.kind bounds self.entry.bytes.now self.entry.base self.entry.count)) }
     {
-        for k in 0..2 * self.count as u32 {
-            if !self.fits(bounds, k) {
-                return Some(self.base + 2 * k as usize);
-            }
-        }
-        None
+        (0..2 * self.count as u32)
+            .find(|&k| !self.fits(bounds, k))
+            .map(|k| self.base + 2 * k as usize)
     }
 
     /// All records, copied to a table.

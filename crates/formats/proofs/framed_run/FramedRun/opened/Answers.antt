@@ -5,7 +5,7 @@ pub invariant_of-result : goal.invariant_of-result
 invariant_of-result c =
     let bytes = c.args.self.bytes.now in
     let framed = c.args.self.framed in
-    let inside = c.requires.run_inside in
+    let inside = c.requires.inside in
     let ascending = c.requires.ascending in
     record {
       sizes = c.args.self.sizes;

@@ -1,17 +1,13 @@
-use Rattle.std.proofs.Common.{refl, arith, below_more}
+use Rattle.std.proofs.Common.{refl, arith, rules}
+use Rattle.std.proofs.lemmas.Iterator.{first_from_Range}
+use Rattle.formats.specs.Sections.{first_at, Lowest, Ascends, Unordered}
+use Rattle.formats.proofs.Found.{made_of_found}
 use Rattle.formats.proofs.sections.Section.unordered.Goals as goal
 
-pub loop-i-init : goal.loop-i-init
-loop-i-init g c = λ j h z. absurd (omega arith)
-
-pub loop-i-preserved : goal.loop-i-preserved
-loop-i-preserved g c = below_more _ _ c.loop-i.invariant (λ z. c.if-not-ascends.ensures.0 tt)
-
-pub returns-then-not-ascends : goal.returns-then-not-ascends
-returns-then-not-ascends g c = (
-  (c.loop-i.i, omega arith, c.loop-i-test.true, refl, c.if-not-ascends.ensures.1),
-  λ q l u. u.4 (c.loop-i.invariant u.0 (omega (arith, u.3)) u.1),
-)
-
 pub returns : goal.returns
-returns g c = λ i z h. c.loop-i.invariant i (omega arith) z
+returns g c =
+    let s = c.args.self in
+    let found = first_from_Range _ _ _ _ (λ i. ¬ (Ascends s.bytes.now s.base s.count i)) (Ascends s.bytes.now s.base s.count) c.find.ensures.ran (λ x q k. search rules) (λ x q k. search rules) in
+    made_of_found (Lowest (Unordered s.bytes.now s.base s.count)) (first_at s.base s.count) c.find.result c.map.result found c.map.ensures.cases (λ x y m. search rules)
+    (λ h i z l. h i (omega arith) l)
+    (λ i h. ((i, omega (arith, h.0), h.1, refl, h.2), λ q l u. u.4 (h.3 u.0 (omega (arith, u.1)) (omega (arith, u.3)))))

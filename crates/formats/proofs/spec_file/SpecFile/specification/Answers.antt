@@ -11,23 +11,16 @@ pub invariant_of-result : goal.invariant_of-result
 invariant_of-result c =
     let bytes = c.args.self.bytes.now in
     let framed = c.args.self.framed in
+    let inside = c.requires in
     let es : kept c.table-edges.result ≡ section made_edge bytes (edges_from bytes) (m_of bytes) = rows_as made_edge c.table-edges.ensures c.edges.ensures in
     let vs : kept c.table-vertices.result ≡ section made_vertex bytes (vertices_from bytes) (n_of bytes) = rows_as made_vertex c.table-vertices.ensures c.vertices.ensures in
     let ns : kept c.table-nests.result ≡ section made_nest bytes (nests_from bytes) (b_of bytes) = rows_as made_nest c.table-nests.ensures c.nests.ensures in
     let xs : kept c.table-ends.result ≡ section made_ends bytes (ends_from bytes) (b_of bytes) = rows_as made_ends c.table-ends.ensures c.ends.ensures in
     record {
-      sized = stated_sized framed c.requires es vs ns xs;
-      edged = stated_edges framed c.requires es vs ns xs;
-      housed = stated_homes framed c.requires es vs ns xs;
-      rooted = stated_whole framed c.requires es vs ns xs;
-      nested = stated_nests framed c.requires es vs ns xs;
-      ended = stated_ends framed c.requires es vs ns xs;
+      sized = stated_sized framed inside es vs ns xs;
+      edged = stated_edges framed inside es vs ns xs;
+      housed = stated_homes framed inside es vs ns xs;
+      rooted = stated_whole framed inside es vs ns xs;
+      nested = stated_nests framed inside es vs ns xs;
+      ended = stated_ends framed inside es vs ns xs;
     }
-
-pub returns : goal.returns
-returns c = record {
-  states_edges = rows_as made_edge c.table-edges.ensures c.edges.ensures;
-  states_vertices = rows_as made_vertex c.table-vertices.ensures c.vertices.ensures;
-  states_nests = rows_as made_nest c.table-nests.ensures c.nests.ensures;
-  states_ends = rows_as made_ends c.table-ends.ensures c.ends.ensures;
-}

@@ -1,6 +1,5 @@
-use Rattle.records.specs.Kinds.{ends_kind}
-use Rattle.formats.proofs.Ranges.{inside_as, lowest_as, found_as, lowest_edges, lowest_vertices, lowest_nests, file_done}
-use Rattle.formats.proofs.spec_file.SpecFile.outside.Goals as goal
+use Rattle.formats.proofs.Ranges.{inside_as, lowest_as, lowest_edges, lowest_vertices, lowest_nests}
+use Rattle.formats.proofs.reading.SpecFileFramedFile.outside.Goals as goal
 
 pub returns-in-Some : goal.returns-in-Some
 returns-in-Some c =
@@ -22,14 +21,3 @@ returns-in-Some-outside-2 c =
     lowest_nests c.args.self.bytes.now (inside_as c.bounds-bounds.ensures e.0 e.1 e.2 c.in_default.ensures)
     (inside_as c.bounds-bounds.ensures v.0 v.1 v.2 c.in_default-outside.ensures)
     (lowest_as c.bounds-bounds.ensures n.0 n.1 n.2 c.in-Some-outside-2.ensures)
-
-pub returns : goal.returns
-returns c =
-    let e = c.edges.ensures in
-    let v = c.vertices.ensures in
-    let n = c.nests.ensures in
-    let x = c.ends.ensures in
-    file_done c.args.self.bytes.now c.outside-4.result (inside_as c.bounds-bounds.ensures e.0 e.1 e.2 c.in_default.ensures)
-    (inside_as c.bounds-bounds.ensures v.0 v.1 v.2 c.in_default-outside.ensures)
-    (inside_as c.bounds-bounds.ensures n.0 n.1 n.2 c.in_default-outside-2.ensures)
-    (found_as ends_kind c.bounds-bounds.ensures x.0 x.1 x.2 c.outside-4.result c.outside-4.ensures)
