@@ -77,12 +77,19 @@ module _ (k : Kind) (w : Bounds) (bytes : List ℕ) (base count : ℕ) where
   all_inside a = record { firsts_in = λ j h. first_number j h (a j (omega arith)); seconds_in = λ j h. second_number j (a (count + j) (omega arith)) }
 
 -- the same section under other names
-module _ {k : Kind} {w w' : Bounds} {bytes bytes' : List ℕ} {base base' count count' : ℕ} (same_w : w ≡ w') (same_bytes : bytes ≡ bytes') (same_base : base ≡ base') (same_count : count ≡ count') where
-  pub inside_as : Inside k w bytes base count → Inside k w' bytes' base' count'
-  inside_as h = rw (← same_w, ← same_bytes, ← same_base, ← same_count) h
+module _ {w w' : Bounds} {bytes bytes' : List ℕ} {base base' count count' : ℕ} (same_w : w ≡ w') (same : (bytes ≡ bytes') × (base ≡ base') × (count ≡ count')) where
+  as_named : (P : Bounds → List ℕ → ℕ → ℕ → Type 0) → P w bytes base count → P w' bytes' base' count'
+  as_named P h =
+      let a = same.0 in
+      let b = same.1 in
+      let c = same.2 in
+      rw (← same_w, ← a, ← b, ← c) h
 
-  pub lowest_as : {p : ℕ} → Lowest (Outside k w bytes base count) p → Lowest (Outside k w' bytes' base' count') p
-  lowest_as h = rw (← same_w, ← same_bytes, ← same_base, ← same_count) h
+  pub inside_as : {k : Kind} → Inside k w bytes base count → Inside k w' bytes' base' count'
+  inside_as {k = k} = as_named (Inside k)
+
+  pub lowest_as : {k : Kind} {p : ℕ} → Lowest (Outside k w bytes base count) p → Lowest (Outside k w' bytes' base' count') p
+  lowest_as {k = k} {p = p} = as_named (λ w b f n. Lowest (Outside k w b f n) p)
 
 -- section by section: those before hold nothing outside, and those after stand higher
 module _ (bytes : List ℕ) where
