@@ -36,32 +36,3 @@ module _ (es : List SpecEdge) (g : Graph) where
     (λ j. let w = (f x y).0 j in subst (λ (v : ℕ). T (listed es x v)) w.3 (subst (λ (v : ℕ). T (listed es v (head_at es w.0))) w.2 (at_listed es w.0 w.1))),
     λ t. (f x y).1 (listed_at es x y t),
   )
-
--- the row has the first n numbers of f
-abbrev pub Marked : (ℕ → ℕ) → Row → ℕ → Type 0
-Marked f row n = (y : ℕ) → Holds row y ↔ ((i : ℕ) × (i < n) × (f i ≡ y))
-
-module _ (f : ℕ → ℕ) (row : Row) where
-  pub marked_none : ((x : ℕ) → Holds row x → ⊥) → Marked f row 0
-  marked_none g y = ((λ h. absurd (g y h)), λ h. absurd (omega (arith, h.1)))
-
-  pub marked_more : (row' : Row) (n : ℕ) → Marked f row n → f n < vertices → ((y : ℕ) → Holds row' y ↔ (Holds row y ⊎ ((y ≡ f n) × (f n < vertices)))) → Marked f row' (n + 1)
-  marked_more row' n g l k y = (
-    (λ h. elim ((k y).0 h) [ inl a ↦ let w = (g y).0 a in (w.0, omega (arith, w.1), w.2) | inr a ↦ (n, omega arith, sym a.0) ]),
-    λ w. elim (cases_eq w.0 n) [
-      | inl e ↦ (k y).1 (inr (sym w.2 ∙ subst (λ (i : ℕ). f w.0 ≡ f i) e refl, l))
-      | inr d ↦ (k y).1 (inl ((g y).1 (w.0, omega (arith, w.1, d), w.2)))
-    ],
-  )
-
-pub heads_all : (es : List SpecEdge) (row : Row) → Marked (head_at es) row (length es) → (x : ℕ) → Holds row x ↔ ((y : ℕ) × T (listed es y x))
-heads_all es row m x = (
-  (λ h. let w = (m x).0 h in (tail_at es w.0, subst (λ (v : ℕ). T (listed es (tail_at es w.0) v)) w.2 (at_listed es w.0 w.1))),
-  λ t. let w = listed_at es t.0 x t.1 in (m x).1 (w.0, w.1, w.3),
-)
-
-pub tails_all : (es : List SpecEdge) (row : Row) → Marked (tail_at es) row (length es) → (x : ℕ) → Holds row x ↔ ((y : ℕ) × T (listed es x y))
-tails_all es row m x = (
-  (λ h. let w = (m x).0 h in (head_at es w.0, subst (λ (v : ℕ). T (listed es v (head_at es w.0))) w.2 (at_listed es w.0 w.1))),
-  λ t. let w = listed_at es x t.0 t.1 in (m x).1 (w.0, w.1, w.2),
-)
