@@ -11,16 +11,16 @@ use Rattle.rules.specs.Parts.{tail_at, head_at}
 use Rattle.rules.proofs.Ranges.{listed_at, at_listed}
 
 -- the graph has the first n edges
-abbrev pub Drawn : List SpecEdge → Graph → ℕ → Type 0
-Drawn es g n = (x y : ℕ) → Joins g x y ↔ ((i : ℕ) × (i < n) × (tail_at es i ≡ x) × (head_at es i ≡ y))
+abbrev pub HasFirst : List SpecEdge → Graph → ℕ → Type 0
+HasFirst es g n = (x y : ℕ) → Joins g x y ↔ ((i : ℕ) × (i < n) × (tail_at es i ≡ x) × (head_at es i ≡ y))
 
 module _ (es : List SpecEdge) (g : Graph) where
-  pub drawn_none : ((x y : ℕ) → Joins g x y → ⊥) → Drawn es g 0
-  drawn_none f x y = ((λ h. absurd (f x y h)), λ h. absurd (omega (arith, h.1)))
+  pub first_none : ((x y : ℕ) → Joins g x y → ⊥) → HasFirst es g 0
+  first_none f x y = ((λ h. absurd (f x y h)), λ h. absurd (omega (arith, h.1)))
 
-  pub drawn_more : (g' : Graph) (n : ℕ) → Drawn es g n → tail_at es n < vertices → head_at es n < vertices
-      → ((a b : ℕ) → Joins g' a b ↔ (Joins g a b ⊎ ((a ≡ tail_at es n) × (b ≡ head_at es n) × (tail_at es n < vertices) × (head_at es n < vertices)))) → Drawn es g' (n + 1)
-  drawn_more g' n f t h k x y = (
+  pub first_more : (g' : Graph) (n : ℕ) → HasFirst es g n → tail_at es n < vertices → head_at es n < vertices
+      → ((a b : ℕ) → Joins g' a b ↔ (Joins g a b ⊎ ((a ≡ tail_at es n) × (b ≡ head_at es n) × (tail_at es n < vertices) × (head_at es n < vertices)))) → HasFirst es g' (n + 1)
+  first_more g' n f t h k x y = (
     (λ j. elim ((k x y).0 j) [
       | inl a ↦ let w = (f x y).0 a in (w.0, omega (arith, w.1), w.2, w.3)
       | inr a ↦ (n, omega arith, sym a.0, sym a.1)
@@ -31,8 +31,8 @@ module _ (es : List SpecEdge) (g : Graph) where
     ],
   )
 
-  pub drawn_all : Drawn es g (length es) → (x y : ℕ) → Joins g x y ↔ T (listed es x y)
-  drawn_all f x y = (
+  pub first_all : HasFirst es g (length es) → (x y : ℕ) → Joins g x y ↔ T (listed es x y)
+  first_all f x y = (
     (λ j. let w = (f x y).0 j in subst (λ (v : ℕ). T (listed es x v)) w.3 (subst (λ (v : ℕ). T (listed es v (head_at es w.0))) w.2 (at_listed es w.0 w.1))),
     λ t. (f x y).1 (listed_at es x y t),
   )

@@ -19,7 +19,7 @@ impl Inner<'_> {
         ensures { MatchResult result (λ _. KeepsRule (inner_spec self.now) self.now.number) (λ f. Acyclic (inner_spec self.now) → HasWholeEnds (inner_spec self.now) → PassedBelow (inner_spec self.now) self.now.number → Unsealed (inner_spec self.now) (nesting_fault f)) }
     {
         let block = self.number;
-        match self.drawn.parts.nests[block].block_kind() {
+        match self.nest().block_kind() {
             Some(BlockKind::Fork) if !self.fork_rule() => Err(NestingFault::ForkRule { block }),
             Some(BlockKind::Loop) if !self.loop_rule() => Err(NestingFault::LoopRule { block }),
             _ => Ok(()),

@@ -28,8 +28,8 @@ impl Inner<'_> {
     pub(crate) fn distinct(&self) -> bool
         ensures { T result ↔ Distinct (inner_spec self.now) self.now.number }
     {
-        let nest = self.drawn.parts.nests[self.number];
         let parts = &self.drawn.parts;
+        let nest = self.nest();
         let parent = nest.parent as usize;
         if nest.kind != parts.nests[parent].kind {
             return true;

@@ -94,7 +94,7 @@ impl Inner<'_> {
     fn edges_stay(&self, row: &Row) -> bool
         ensures { T result ↔ EdgesStay (inner_spec self.now) self.now.number row.now }
     {
-        let ends = self.drawn.parts.ends[self.number];
+        let ends = self.ends();
         let source = ends.source as usize;
         let sink = ends.sink as usize;
         self.drawn.parts.edges.iter().all(|edge| {
@@ -108,7 +108,7 @@ impl Inner<'_> {
     fn fork_row(&self, row: &Row, x: usize) -> bool
         ensures { T result ↔ ForkRow (inner_spec self.now) self.now.number row.now self.now.drawn.heads self.now.drawn.tails x }
     {
-        let ends = self.drawn.parts.ends[self.number];
+        let ends = self.ends();
         !row.has(ends.source as usize)
             && !row.has(ends.sink as usize)
             && within(row, &self.drawn.heads)
@@ -132,10 +132,10 @@ impl Inner<'_> {
     fn fork_ends(&self) -> bool
         ensures { T result ↔ ForkEnds (inner_spec self.now) self.now.number }
     {
-        let parent = self.drawn.parts.nests[self.number].parent as usize;
         let parts = &self.drawn.parts;
+        let parent = self.nest().parent as usize;
         let outer = parts.ends[parent];
-        let ends = parts.ends[self.number];
+        let ends = self.ends();
         let source = ends.source as usize;
         let sink = ends.sink as usize;
         parts.end_at(parent, source, outer.source as usize)

@@ -54,7 +54,7 @@ impl Inner<'_> {
     fn loop_row(&self, row: &Row) -> bool
         ensures { T result ↔ LoopRow (inner_spec self.now) self.now.number row.now self.now.drawn.heads self.now.drawn.tails }
     {
-        let ends = self.drawn.parts.ends[self.number];
+        let ends = self.ends();
         row.has(ends.source as usize)
             && row.has(ends.sink as usize)
             && self.drawn.loop_vertices(row, ends)
