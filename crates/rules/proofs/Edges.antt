@@ -4,9 +4,8 @@ use Rattle.std.proofs.lemmas.Bool.{cases_eq}
 use Rattle.formats.specs.Specifications.{listed}
 use Rattle.records.specs.declared.kinds.SpecEdge.{SpecEdge}
 use Rattle.graphs.specs.Graphs.{Joins}
-use Rattle.graphs.specs.Rows.{Holds, vertices}
+use Rattle.graphs.specs.Rows.{vertices}
 use Rattle.graphs.specs.declared.graph.Graph.{Graph}
-use Rattle.graphs.specs.declared.row.Row.{Row}
 use Rattle.rules.specs.Parts.{tail_at, head_at}
 use Rattle.rules.proofs.Ranges.{listed_at, at_listed}
 
@@ -15,9 +14,6 @@ abbrev pub HasFirst : List SpecEdge → Graph → ℕ → Type 0
 HasFirst es g n = (x y : ℕ) → Joins g x y ↔ ((i : ℕ) × (i < n) × (tail_at es i ≡ x) × (head_at es i ≡ y))
 
 module _ (es : List SpecEdge) (g : Graph) where
-  pub first_none : ((x y : ℕ) → Joins g x y → ⊥) → HasFirst es g 0
-  first_none f x y = ((λ h. absurd (f x y h)), λ h. absurd (omega (arith, h.1)))
-
   pub first_more : (g' : Graph) (n : ℕ) → HasFirst es g n → tail_at es n < vertices → head_at es n < vertices
       → ((a b : ℕ) → Joins g' a b ↔ (Joins g a b ⊎ ((a ≡ tail_at es n) × (b ≡ head_at es n) × (tail_at es n < vertices) × (head_at es n < vertices)))) → HasFirst es g' (n + 1)
   first_more g' n f t h k x y = (

@@ -22,9 +22,6 @@ abbrev pub Linking : List SpecEdge → Row → Graph → ℕ → Type 0
 Linking es row g m = (x y : ℕ) → Joins g x y ↔ (Holds row x × Holds row y × ((i : ℕ) × (i < m) × Between (get_or es i no_edge) x y))
 
 module _ (es : List SpecEdge) (row : Row) (g : Graph) where
-  pub linking_none : ((x y : ℕ) → Joins g x y → ⊥) → Linking es row g 0
-  linking_none f x y = ((λ j. absurd (f x y j)), λ h. absurd (omega (arith, h.2.1)))
-
   -- one edge more, which lies within the row
   module _ (g' g'' : Graph) (m : ℕ) (f : Linking es row g m)
       (t : Holds row (get_or es m no_edge).tail) (h : Holds row (get_or es m no_edge).head)

@@ -1,5 +1,5 @@
 -- A row that is filled with one end of each edge, and the rows of all heads and of all tails.
-use Rattle.std.proofs.Common.{◌≡◌, ℕ, zero, suc, ◌+◌, ◌<◌, Bool, true, ◌||◌, T, eqb, ◌⊎◌, ◌↔◌, List, [], ◌∷◌, length, get_or, take, ◌==◌, sym, ◌∙◌, subst, inl, inr, arith}
+use Rattle.std.proofs.Common.{◌≡◌, ℕ, suc, ◌+◌, ◌<◌, Bool, true, ◌||◌, T, ◌⊎◌, ◌↔◌, List, [], ◌∷◌, length, get_or, take, ◌==◌, sym, ◌∙◌, subst, inl, inr, arith}
 use Rattle.std.specs.List.{list_any}
 use Rattle.std.proofs.lemmas.Bool.{eqb-true, eq-eqb, or_cases, or_left, or_right}
 use Rattle.std.proofs.lemmas.List.Folds.{list_any_at, list_any_more}
@@ -15,9 +15,6 @@ use Rattle.rules.proofs.Ranges.{listed_at, at_listed}
 module _ (end : SpecEdge → ℕ) where
   abbrev is_end : ℕ → SpecEdge → Bool
   is_end x e = end e == x
-
-  pub marks_none : (row : Row) → ((x : ℕ) → ¬ (Holds row x)) → Marks end [] row
-  marks_none row f x = ((λ h. absurd (f x h)), λ t. absurd (cc))
 
   pub marks_more : (es : List SpecEdge) (row row' : Row) (n : ℕ) → Marks end (take n es) row → n < length es → end (get_or es n no_edge) < vertices
       → ((y : ℕ) → Holds row' y ↔ (Holds row y ⊎ ((y ≡ end (get_or es n no_edge)) × (end (get_or es n no_edge) < vertices)))) → Marks end (take (n + 1) es) row'

@@ -1,10 +1,7 @@
 use Rattle.std.proofs.Common.{◌≡◌, ℕ, ◌<◌, length, subst, arith}
 use Rattle.rules.specs.Parts.{head_at, tail_at}
-use Rattle.rules.proofs.Edges.{HasFirst, first_none, first_more, first_all}
+use Rattle.rules.proofs.Edges.{HasFirst, first_more, first_all}
 use Rattle.rules.proofs.parts.Parts.graph.Goals as goal
-
-pub loop-edge-init : goal.loop-edge-init
-loop-edge-init c = first_none c.args.self.now.edges.now c.new-graph.result c.new-graph.ensures
 
 pub loop-edge-preserved : goal.loop-edge-preserved
 loop-edge-preserved c =

@@ -1,11 +1,8 @@
 use Rattle.std.proofs.Common.{◌≡◌, ◌+◌, length, sym, subst, arith}
 use Rattle.graphs.specs.declared.graph.Graph.{Graph}
-use Rattle.rules.proofs.Links.{Linking, linking_none, linking_put, linking_skip, linking_all}
+use Rattle.rules.proofs.Links.{Linking, linking_put, linking_skip, linking_all}
 use Rattle.rules.proofs.parts.Parts.links.Goals as goal
 use Rattle.rules.proofs.parts.Parts.links.Goals.{then-has+then-has-2, else-has, else-has-via-then-has+else-has-2, else-has-via-else-has}
-
-pub loop-edge-init : goal.loop-edge-init
-loop-edge-init c = linking_none c.args.self.now.edges.now c.args.row.now c.new-graph.result c.new-graph.ensures
 
 pub loop-edge-preserved : goal.loop-edge-preserved
 loop-edge-preserved c =

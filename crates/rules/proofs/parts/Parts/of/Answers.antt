@@ -1,8 +1,4 @@
-use Rattle.rules.proofs.PartsOf.{few_of}
 use Rattle.rules.proofs.parts.Parts.of.Goals as goal
-
-pub invariant_of-result-clause-few : goal.invariant_of-result-clause-few
-invariant_of-result-clause-few c = let s = c.args.specification.now in few_of s.vertices.items _ s.vertices.len 64 c.vertices-vertices.ensures s.vertices.fits
 
 pub invariant_of-result-clause-edged : goal.invariant_of-result-clause-edged
 invariant_of-result-clause-edged c = rw (c.edges-edges.ensures, c.vertices-vertices.ensures) c.args.specification.now.edged
