@@ -3,23 +3,20 @@ use Rattle.std.proofs.Common.{◌≡◌, ℕ, ◌+◌, ◌<◌, T, ◌⊎◌, �
 use Rattle.std.proofs.lemmas.Bool.{cases_eq}
 use Rattle.formats.specs.Specifications.{listed}
 use Rattle.records.specs.declared.kinds.SpecEdge.{SpecEdge}
-use Rattle.graphs.specs.Graphs.{Graph, Joins}
-use Rattle.graphs.specs.Rows.{Holds, vertices}
-use Rattle.graphs.specs.declared.row.Row.{Row}
+use Rattle.graphs.specs.Graphs.{Joins}
+use Rattle.graphs.specs.Rows.{vertices}
+use Rattle.graphs.specs.Graphs.{Graph}
 use Rattle.rules.specs.Parts.{tail_at, head_at}
 use Rattle.rules.proofs.Ranges.{listed_at, at_listed}
 
 -- the graph has the first n edges
-abbrev pub Drawn : List SpecEdge → Graph → ℕ → Type 0
-Drawn es g n = (x y : ℕ) → Joins g x y ↔ ((i : ℕ) × (i < n) × (tail_at es i ≡ x) × (head_at es i ≡ y))
+abbrev pub HasFirst : List SpecEdge → Graph → ℕ → Type 0
+HasFirst es g n = (x y : ℕ) → Joins g x y ↔ ((i : ℕ) × (i < n) × (tail_at es i ≡ x) × (head_at es i ≡ y))
 
 module _ (es : List SpecEdge) (g : Graph) where
-  pub drawn_none : ((x y : ℕ) → Joins g x y → ⊥) → Drawn es g 0
-  drawn_none f x y = ((λ h. absurd (f x y h)), λ h. absurd (omega (arith, h.1)))
-
-  pub drawn_more : (g' : Graph) (n : ℕ) → Drawn es g n → tail_at es n < vertices → head_at es n < vertices
-      → ((a b : ℕ) → Joins g' a b ↔ (Joins g a b ⊎ ((a ≡ tail_at es n) × (b ≡ head_at es n) × (tail_at es n < vertices) × (head_at es n < vertices)))) → Drawn es g' (n + 1)
-  drawn_more g' n f t h k x y = (
+  pub first_more : (g' : Graph) (n : ℕ) → HasFirst es g n → tail_at es n < vertices → head_at es n < vertices
+      → ((a b : ℕ) → Joins g' a b ↔ (Joins g a b ⊎ ((a ≡ tail_at es n) × (b ≡ head_at es n) × (tail_at es n < vertices) × (head_at es n < vertices)))) → HasFirst es g' (n + 1)
+  first_more g' n f t h k x y = (
     (λ j. elim ((k x y).0 j) [
       | inl a ↦ let w = (f x y).0 a in (w.0, omega (arith, w.1), w.2, w.3)
       | inr a ↦ (n, omega arith, sym a.0, sym a.1)
@@ -30,37 +27,8 @@ module _ (es : List SpecEdge) (g : Graph) where
     ],
   )
 
-  pub drawn_all : Drawn es g (length es) → (x y : ℕ) → Joins g x y ↔ T (listed es x y)
-  drawn_all f x y = (
+  pub first_all : HasFirst es g (length es) → (x y : ℕ) → Joins g x y ↔ T (listed es x y)
+  first_all f x y = (
     (λ j. let w = (f x y).0 j in subst (λ (v : ℕ). T (listed es x v)) w.3 (subst (λ (v : ℕ). T (listed es v (head_at es w.0))) w.2 (at_listed es w.0 w.1))),
     λ t. (f x y).1 (listed_at es x y t),
   )
-
--- the row has the first n numbers of f
-abbrev pub Marked : (ℕ → ℕ) → Row → ℕ → Type 0
-Marked f row n = (y : ℕ) → Holds row y ↔ ((i : ℕ) × (i < n) × (f i ≡ y))
-
-module _ (f : ℕ → ℕ) (row : Row) where
-  pub marked_none : ((x : ℕ) → Holds row x → ⊥) → Marked f row 0
-  marked_none g y = ((λ h. absurd (g y h)), λ h. absurd (omega (arith, h.1)))
-
-  pub marked_more : (row' : Row) (n : ℕ) → Marked f row n → f n < vertices → ((y : ℕ) → Holds row' y ↔ (Holds row y ⊎ ((y ≡ f n) × (f n < vertices)))) → Marked f row' (n + 1)
-  marked_more row' n g l k y = (
-    (λ h. elim ((k y).0 h) [ inl a ↦ let w = (g y).0 a in (w.0, omega (arith, w.1), w.2) | inr a ↦ (n, omega arith, sym a.0) ]),
-    λ w. elim (cases_eq w.0 n) [
-      | inl e ↦ (k y).1 (inr (sym w.2 ∙ subst (λ (i : ℕ). f w.0 ≡ f i) e refl, l))
-      | inr d ↦ (k y).1 (inl ((g y).1 (w.0, omega (arith, w.1, d), w.2)))
-    ],
-  )
-
-pub heads_all : (es : List SpecEdge) (row : Row) → Marked (head_at es) row (length es) → (x : ℕ) → Holds row x ↔ ((y : ℕ) × T (listed es y x))
-heads_all es row m x = (
-  (λ h. let w = (m x).0 h in (tail_at es w.0, subst (λ (v : ℕ). T (listed es (tail_at es w.0) v)) w.2 (at_listed es w.0 w.1))),
-  λ t. let w = listed_at es t.0 x t.1 in (m x).1 (w.0, w.1, w.3),
-)
-
-pub tails_all : (es : List SpecEdge) (row : Row) → Marked (tail_at es) row (length es) → (x : ℕ) → Holds row x ↔ ((y : ℕ) × T (listed es x y))
-tails_all es row m x = (
-  (λ h. let w = (m x).0 h in (head_at es w.0, subst (λ (v : ℕ). T (listed es v (head_at es w.0))) w.2 (at_listed es w.0 w.1))),
-  λ t. let w = listed_at es x t.0 t.1 in (m x).1 (w.0, w.1, w.2),
-)

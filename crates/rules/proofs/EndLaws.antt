@@ -15,12 +15,12 @@ module _ (s : Spec) (heads tails : Row) (in_heads : HoldsHeads s heads) (in_tail
 
   pub ends_of : (e : Ends) → e.source ≡ s.source 0 → e.sink ≡ s.sink 0 → ((x : ℕ) → x < s.n → EndsFit heads tails e x) → HasWholeEnds s
   ends_of e a b f = record {
-    only_source = λ x h. ((λ n. rw a at ((f x h).0.0 ((no_edge_in x).1 n))), λ q. (no_edge_in x).0 ((f x h).0.1 (rw a q)));
-    only_sink = λ x h. ((λ n. rw b at ((f x h).1.0 ((no_edge_out x).1 n))), λ q. (no_edge_out x).0 ((f x h).1.1 (rw b q)));
+    only_source = λ x h. ((λ n. rw a at ((f x h).source_fits.0 ((no_edge_in x).1 n))), λ q. (no_edge_in x).0 ((f x h).source_fits.1 (rw a q)));
+    only_sink = λ x h. ((λ n. rw b at ((f x h).sink_fits.0 ((no_edge_out x).1 n))), λ q. (no_edge_out x).0 ((f x h).sink_fits.1 (rw b q)));
   }
 
   pub fit_of : (e : Ends) → e.source ≡ s.source 0 → e.sink ≡ s.sink 0 → HasWholeEnds s → (x : ℕ) → x < s.n → EndsFit heads tails e x
-  fit_of e a b w x h = (
-    ((λ n. rw a ((w.only_source x h).0 ((no_edge_in x).0 n))), λ q. (no_edge_in x).1 ((w.only_source x h).1 (rw a at q))),
-    ((λ n. rw b ((w.only_sink x h).0 ((no_edge_out x).0 n))), λ q. (no_edge_out x).1 ((w.only_sink x h).1 (rw b at q))),
-  )
+  fit_of e a b w x h = record {
+    source_fits = ((λ n. rw a ((w.only_source x h).0 ((no_edge_in x).0 n))), λ q. (no_edge_in x).1 ((w.only_source x h).1 (rw a at q)));
+    sink_fits = ((λ n. rw b ((w.only_sink x h).0 ((no_edge_out x).0 n))), λ q. (no_edge_out x).1 ((w.only_sink x h).1 (rw b at q)));
+  }

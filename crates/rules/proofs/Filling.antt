@@ -8,9 +8,6 @@ abbrev pub Filled : (ℕ → Type 0) → Row → ℕ → Type 0
 Filled P row n = (y : ℕ) → Holds row y ↔ ((y < n) × P y)
 
 module _ (P : ℕ → Type 0) (row : Row) where
-  pub filled_none : ((x : ℕ) → Holds row x → ⊥) → Filled P row 0
-  filled_none f y = ((λ h. absurd (f y h)), λ h. absurd (omega (arith, h.0)))
-
   pub filled_put : (row' : Row) (x : ℕ) → Filled P row x → x < vertices → P x → ((y : ℕ) → Holds row' y ↔ (Holds row y ⊎ ((y ≡ x) × (x < vertices)))) → Filled P row' (x + 1)
   filled_put row' x f l p g y = (
     (λ h. elim ((g y).0 h) [ inl a ↦ (omega (arith, ((f y).0 a).0), ((f y).0 a).1) | inr a ↦ (omega (arith, a.0), subst P (sym a.0) p) ]),

@@ -5,6 +5,7 @@ pub mod PartsOf
 pub mod Filling
 pub mod Scans
 pub mod Edges
+pub mod Marking
 pub mod InDomain
 pub mod CycleLaws
 pub mod EndLaws

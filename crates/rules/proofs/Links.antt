@@ -1,7 +1,7 @@
 -- The edges within a row, taken without direction: a graph that is filled with them, edge by edge, and what its closure joins.
-use Rattle.std.proofs.Common.{◌≡◌, ℕ, ◌+◌, ◌<◌, T, ◌≢◌, ◌⊎◌, ◌↔◌, List, length, get_or, sym, subst, inl, inr, arith}
+use Rattle.std.proofs.Common.{◌≡◌, ℕ, ◌+◌, ◌<◌, T, ◌⊎◌, ◌↔◌, List, length, get_or, sym, subst, inl, inr, arith}
 use Rattle.std.proofs.lemmas.Bool.{cases_eq}
-use Rattle.model.specs.Paths.{Path*, Path⁺, step}
+use Rattle.model.specs.Paths.{Path*, Path⁺, here, step}
 use Rattle.model.proofs.Paths.{path_last}
 use Rattle.formats.specs.Specifications.{no_edge, listed}
 use Rattle.records.specs.declared.kinds.SpecEdge.{SpecEdge}
@@ -21,9 +21,6 @@ abbrev pub Linking : List SpecEdge → Row → Graph → ℕ → Type 0
 Linking es row g m = (x y : ℕ) → Joins g x y ↔ (Holds row x × Holds row y × ((i : ℕ) × (i < m) × Between (get_or es i no_edge) x y))
 
 module _ (es : List SpecEdge) (row : Row) (g : Graph) where
-  pub linking_none : ((x y : ℕ) → Joins g x y → ⊥) → Linking es row g 0
-  linking_none f x y = ((λ j. absurd (f x y j)), λ h. absurd (omega (arith, h.2.1)))
-
   -- one edge more, which lies within the row
   module _ (g' g'' : Graph) (m : ℕ) (f : Linking es row g m)
       (t : Holds row (get_or es m no_edge).tail) (h : Holds row (get_or es m no_edge).head)
@@ -91,12 +88,14 @@ module _ (es : List SpecEdge) (row : Row) (g : Graph) where
 
 -- the closure of a graph of the relation L joins what a path of L joins
 module _ (L : ℕ → ℕ → Type 0) (g g' : Graph) (law : (x y : ℕ) → Joins g x y ↔ L x y) (closed : (x y : ℕ) → Joins g' x y ↔ Path⁺ (Joins g) x y) where
-  pub joined_path : (x y : ℕ) → Joins g' x y → Path* L x y
-  joined_path x y j = let p = path⁺_map {Q = L} (λ a b. (law a b).0) ((closed x y).0 j) in step p.1 p.2
-
-  pub path_joined : (x y : ℕ) → y ≢ x → Path* L x y → Joins g' x y
-  path_joined x y n p =
-      elim (path_last p) [
-        | inl e ↦ absurd (n (sym e))
-        | inr q ↦ (closed x y).1 (path⁺_map {Q = Joins g} (λ a b. (law a b).1) q)
-      ]
+  pub reached : (x y : ℕ) → ((y ≡ x) ⊎ Joins g' x y) ↔ Path* L x y
+  reached x y = (
+    (λ h. elim h [
+      | inl e ↦ subst (Path* L x) (sym e) here
+      | inr j ↦ let p = path⁺_map {Q = L} (λ a b. (law a b).0) ((closed x y).0 j) in step p.1 p.2
+    ]),
+    λ p. elim (path_last p) [
+      | inl e ↦ inl (sym e)
+      | inr q ↦ inr ((closed x y).1 (path⁺_map {Q = Joins g} (λ a b. (law a b).1) q))
+    ],
+  )

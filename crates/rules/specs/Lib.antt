@@ -4,3 +4,4 @@ pub mod Parts
 pub mod Loops
 pub mod Deciding
 pub mod Forks
+pub mod Blocks

@@ -1,15 +1,61 @@
-ghost use Rattle.std.specs.Prelude.{◌≡◌, ◌<◌, length, MatchResult};
+ghost use Rattle.std.specs.Prelude.{◌≡◌, length, MatchResult};
 ghost use Rattle.model.specs.Specifications.{Sealed, Acyclic, HasWholeEnds};
 ghost use Rattle.formats.specs.Of.{spec_of};
+ghost use Rattle.rules.specs.Blocks.{drawn_spec, inner_spec};
 ghost use Rattle.rules.specs.Faults.{nesting_fault};
-ghost use Rattle.rules.specs.Parts.{parts_spec, HoldsHeads, HoldsTails};
+ghost use Rattle.rules.specs.Parts.{parts_spec};
 ghost use Rattle.rules.specs.Unsealed.{KeepsRule, Passes, PassedBelow, Unsealed};
 
+use crate::drawn::Drawn;
 use crate::faults::NestingFault;
+use crate::inner::Inner;
 use crate::parts::Parts;
 use formats::specification::Specification;
-use graphs::row::Row;
 use records::kinds::BlockKind;
+
+impl Inner<'_> {
+    /// The rule of the block's kind.
+    fn check_rule(&self) -> Result<(), NestingFault>
+        ensures { MatchResult result (λ _. KeepsRule (inner_spec self.now) self.now.number) (λ f. Acyclic (inner_spec self.now) → HasWholeEnds (inner_spec self.now) → PassedBelow (inner_spec self.now) self.now.number → Unsealed (inner_spec self.now) (nesting_fault f)) }
+    {
+        let block = self.number;
+        match self.nest().block_kind() {
+            Some(BlockKind::Fork) if !self.fork_rule() => Err(NestingFault::ForkRule { block }),
+            Some(BlockKind::Loop) if !self.loop_rule() => Err(NestingFault::LoopRule { block }),
+            _ => Ok(()),
+        }
+    }
+
+    /// The checks of the block.
+    fn check(&self) -> Result<(), NestingFault>
+        ensures { MatchResult result (λ _. Passes (inner_spec self.now) self.now.number) (λ f. Acyclic (inner_spec self.now) → HasWholeEnds (inner_spec self.now) → PassedBelow (inner_spec self.now) self.now.number → Unsealed (inner_spec self.now) (nesting_fault f)) }
+    {
+        self.check_rule()?;
+        if !self.distinct() {
+            return Err(NestingFault::EqualDomains { block: self.number });
+        }
+        Ok(())
+    }
+}
+
+impl Drawn<'_> {
+    /// The checks of the ends of block 0 and of every other block, in their order.
+    fn check(&self) -> Result<(), NestingFault>
+        ensures { MatchResult result (λ _. HasWholeEnds (drawn_spec self.now) × PassedBelow (drawn_spec self.now) (length self.now.parts.nests.now)) (λ f. Acyclic (drawn_spec self.now) → Unsealed (drawn_spec self.now) (nesting_fault f)) }
+    {
+        if !self.whole_ends() {
+            return Err(NestingFault::WholeEnds);
+        }
+        for number in 1..self.parts.nests.len() {
+            let block = Inner {
+                drawn: *self,
+                number,
+            };
+            block.check()?;
+        }
+        Ok(())
+    }
+}
 
 impl<'a> Parts<'a> {
     pub(crate) fn of(specification: &'a Specification) -> Self
@@ -27,63 +73,14 @@ impl<'a> Parts<'a> {
         }
     }
 
-    /// The rule of block `k`, by its kind.
-    fn check_rule(&self, k: usize, heads: &Row, tails: &Row) -> Result<(), NestingFault>
-        requires k_nonzero { (0 < k) × (k < length self.now.nests.now) }
-        requires holds_heads { HoldsHeads (parts_spec self.now) heads.now }
-        requires holds_tails { HoldsTails (parts_spec self.now) tails.now }
-        ensures { MatchResult result (λ _. KeepsRule (parts_spec self.now) k) (λ f. Acyclic (parts_spec self.now) → HasWholeEnds (parts_spec self.now) → PassedBelow (parts_spec self.now) k → Unsealed (parts_spec self.now) (nesting_fault f)) }
-    {
-        let Some(kind) = self.nests[k].block_kind() else {
-            return Ok(());
-        };
-        match kind {
-            BlockKind::Whole => Ok(()),
-            BlockKind::Fork => {
-                if !self.fork_rule(k, heads, tails) {
-                    return Err(NestingFault::ForkRule { block: k });
-                }
-                Ok(())
-            }
-            BlockKind::Loop => {
-                if !self.loop_rule(k, heads, tails) {
-                    return Err(NestingFault::LoopRule { block: k });
-                }
-                Ok(())
-            }
-        }
-    }
-
-    /// The checks of block `k`.
-    fn check_block(&self, k: usize, heads: &Row, tails: &Row) -> Result<(), NestingFault>
-        requires k_nonzero { (0 < k) × (k < length self.now.nests.now) }
-        requires holds_heads { HoldsHeads (parts_spec self.now) heads.now }
-        requires holds_tails { HoldsTails (parts_spec self.now) tails.now }
-        ensures { MatchResult result (λ _. Passes (parts_spec self.now) k) (λ f. Acyclic (parts_spec self.now) → HasWholeEnds (parts_spec self.now) → PassedBelow (parts_spec self.now) k → Unsealed (parts_spec self.now) (nesting_fault f)) }
-    {
-        self.check_rule(k, heads, tails)?;
-        if !self.distinct(k) {
-            return Err(NestingFault::EqualDomains { block: k });
-        }
-        Ok(())
-    }
-
     /// All checks of sealing, in their order.
     fn check(&self) -> Result<(), NestingFault>
         ensures { MatchResult result (λ _. Sealed (parts_spec self.now)) (λ f. Unsealed (parts_spec self.now) (nesting_fault f)) }
     {
-        if let Some(vertex) = self.cycle() {
-            return Err(NestingFault::Cycle { vertex });
+        match self.cycle() {
+            Some(vertex) => Err(NestingFault::Cycle { vertex }),
+            None => self.drawn().check(),
         }
-        let heads = self.heads();
-        let tails = self.tails();
-        if !self.whole_ends(&heads, &tails) {
-            return Err(NestingFault::WholeEnds);
-        }
-        for k in 1..self.nests.len() {
-            self.check_block(k, &heads, &tails)?;
-        }
-        Ok(())
     }
 }
 

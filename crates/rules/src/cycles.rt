@@ -26,11 +26,6 @@ impl Parts<'_> {
     {
         let mut graph = self.graph();
         graph.close();
-        for x in 0..self.vertices.len() {
-            if graph.has(x, x) {
-                return Some(x);
-            }
-        }
-        None
+        (0..self.vertices.len()).find(|&x| graph.has(x, x))
     }
 }

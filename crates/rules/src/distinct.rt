@@ -1,8 +1,9 @@
 ghost use Rattle.std.specs.Prelude.{ℕ, ◌<◌, T, ◌↔◌, length};
 ghost use Rattle.model.specs.Specifications.{Distinct};
 ghost use Rattle.graphs.specs.Rows.{Holds};
-ghost use Rattle.rules.specs.Parts.{parts_spec};
+ghost use Rattle.rules.specs.Blocks.{inner_spec};
 
+use crate::inner::Inner;
 use crate::parts::Parts;
 use graphs::row::Row;
 
@@ -18,26 +19,23 @@ impl Parts<'_> {
     fn same_vertices(&self, a: &Row, b: &Row) -> bool
         ensures { T result ↔ ((x : ℕ) → x < length self.now.vertices.now → (Holds a.now x ↔ Holds b.now x)) }
     {
-        for x in 0..self.vertices.len() {
-            if !agree(a, b, x) {
-                return false;
-            }
-        }
-        true
+        (0..self.vertices.len()).all(|x| agree(a, b, x))
     }
+}
 
-    /// Whether block `k` has another kind than its parent, or another domain.
-    pub(crate) fn distinct(&self, k: usize) -> bool
-        requires { (0 < k) × (k < length self.now.nests.now) }
-        ensures { T result ↔ Distinct (parts_spec self.now) k }
+impl Inner<'_> {
+    /// Whether the block has another kind than its parent, or another domain.
+    pub(crate) fn distinct(&self) -> bool
+        ensures { T result ↔ Distinct (inner_spec self.now) self.now.number }
     {
-        let nest = self.nests[k];
+        let parts = &self.drawn.parts;
+        let nest = self.nest();
         let parent = nest.parent as usize;
-        if nest.kind != self.nests[parent].kind {
+        if nest.kind != parts.nests[parent].kind {
             return true;
         }
-        let own = self.domain(k);
-        let outer = self.domain(parent);
-        !self.same_vertices(&own, &outer)
+        let own = parts.domain(self.number);
+        let outer = parts.domain(parent);
+        !parts.same_vertices(&own, &outer)
     }
 }

@@ -1,7 +1,9 @@
-ghost use Rattle.std.specs.Prelude.{T, ◌↔◌};
+ghost use Rattle.std.specs.Prelude.{◌≡◌, T, ◌↔◌};
 ghost use Rattle.model.specs.Specifications.{HasWholeEnds};
-ghost use Rattle.rules.specs.Parts.{parts_spec, HoldsHeads, HoldsTails, EndsFit, MissingOnly};
+ghost use Rattle.rules.specs.Blocks.{drawn_spec};
+ghost use Rattle.rules.specs.Parts.{parts_spec, EndsFit, MissingOnly};
 
+use crate::drawn::Drawn;
 use crate::parts::Parts;
 use graphs::row::Row;
 use records::kinds::Ends;
@@ -13,48 +15,39 @@ fn missing_only(row: &Row, x: usize, end: usize) -> bool
     row.has(x) != (x == end)
 }
 
-/// Whether `x` may lie outside the rows of heads and of tails as it does, where block 0 has these ends.
-fn ends_fit(heads: &Row, tails: &Row, x: usize, whole: Ends) -> bool
-    ensures { T result ↔ EndsFit heads.now tails.now whole x }
-{
-    missing_only(heads, x, whole.source as usize) && missing_only(tails, x, whole.sink as usize)
+impl<'a> Parts<'a> {
+    /// The tables with their heads and tails.
+    pub(crate) fn drawn(&self) -> Drawn<'a>
+        ensures { parts_spec result.parts ≡ parts_spec self.now }
+    {
+        let mut heads = Row::empty();
+        let mut tails = Row::empty();
+        for edge in self.edges {
+            heads.insert(edge.head as usize);
+            tails.insert(edge.tail as usize);
+        }
+        Drawn {
+            parts: *self,
+            heads,
+            tails,
+        }
+    }
 }
 
-impl Parts<'_> {
-    /// The vertices with an edge into them.
-    pub(crate) fn heads(&self) -> Row
-        ensures { HoldsHeads (parts_spec self.now) result }
+impl Drawn<'_> {
+    /// Whether `x` may lie outside the heads and the tails as it does, where block 0 has these ends.
+    fn ends_fit(&self, whole: Ends, x: usize) -> bool
+        ensures { T result ↔ EndsFit self.now.heads self.now.tails whole x }
     {
-        let mut row = Row::empty();
-        for edge in self.edges {
-            row.insert(edge.head as usize);
-        }
-        row
-    }
-
-    /// The vertices with an edge out of them.
-    pub(crate) fn tails(&self) -> Row
-        ensures { HoldsTails (parts_spec self.now) result }
-    {
-        let mut row = Row::empty();
-        for edge in self.edges {
-            row.insert(edge.tail as usize);
-        }
-        row
+        missing_only(&self.heads, x, whole.source as usize)
+            && missing_only(&self.tails, x, whole.sink as usize)
     }
 
     /// Whether block 0 has the only vertex without an edge into it as its source, and the only one without an edge out of it as its sink.
-    pub(crate) fn whole_ends(&self, heads: &Row, tails: &Row) -> bool
-        requires holds_heads { HoldsHeads (parts_spec self.now) heads.now }
-        requires holds_tails { HoldsTails (parts_spec self.now) tails.now }
-        ensures { T result ↔ HasWholeEnds (parts_spec self.now) }
+    pub(crate) fn whole_ends(&self) -> bool
+        ensures { T result ↔ HasWholeEnds (drawn_spec self.now) }
     {
-        let whole = self.ends[0];
-        for x in 0..self.vertices.len() {
-            if !ends_fit(heads, tails, x, whole) {
-                return false;
-            }
-        }
-        true
+        let whole = self.parts.ends[0];
+        (0..self.parts.vertices.len()).all(|x| self.ends_fit(whole, x))
     }
 }

@@ -33,47 +33,33 @@ impl From<ReadingFault> for NestingFault {
     }
 }
 
+impl From<NestingFault> for Fault {
+    ghost from_gives = { λ f r. r ≡ nesting_fault f };
+
+    fn from(fault: NestingFault) -> Self {
+        let (number, place) = match fault {
+            NestingFault::Reading(fault) => return fault.fault(),
+            NestingFault::Cycle { vertex } => (6, vertex),
+            NestingFault::WholeEnds => (7, 0),
+            NestingFault::LoopRule { block } => (8, block),
+            NestingFault::ForkRule { block } => (9, block),
+            NestingFault::EqualDomains { block } => (10, block),
+            NestingFault::WrongParent { copy } => (11, copy),
+            NestingFault::LacksCopy { copy } => (12, copy),
+        };
+        Fault {
+            layer: 2,
+            number,
+            place,
+        }
+    }
+}
+
 impl NestingFault {
+    /// Layer, number and place.
     pub fn fault(self) -> Fault
         ensures { result ≡ nesting_fault self }
     {
-        match self {
-            NestingFault::Reading(fault) => fault.fault(),
-            NestingFault::Cycle { vertex } => Fault {
-                layer: 2,
-                number: 6,
-                place: vertex,
-            },
-            NestingFault::WholeEnds => Fault {
-                layer: 2,
-                number: 7,
-                place: 0,
-            },
-            NestingFault::LoopRule { block } => Fault {
-                layer: 2,
-                number: 8,
-                place: block,
-            },
-            NestingFault::ForkRule { block } => Fault {
-                layer: 2,
-                number: 9,
-                place: block,
-            },
-            NestingFault::EqualDomains { block } => Fault {
-                layer: 2,
-                number: 10,
-                place: block,
-            },
-            NestingFault::WrongParent { copy } => Fault {
-                layer: 2,
-                number: 11,
-                place: copy,
-            },
-            NestingFault::LacksCopy { copy } => Fault {
-                layer: 2,
-                number: 12,
-                place: copy,
-            },
-        }
+        Fault::from(self)
     }
 }

@@ -4,9 +4,11 @@ ghost use Rattle.model.specs.Specifications.{ForkDomain, ForkEnds, KeepsForkRule
 ghost use Rattle.formats.specs.Sections.{Lowest};
 ghost use Rattle.graphs.specs.Graphs.{Joins};
 ghost use Rattle.graphs.specs.Rows.{Holds};
-ghost use Rattle.rules.specs.Forks.{Stays, EdgesStay, Linked, EndAt, ForksAbove};
-ghost use Rattle.rules.specs.Parts.{parts_spec, HoldsHeads, HoldsTails};
+ghost use Rattle.rules.specs.Blocks.{inner_spec};
+ghost use Rattle.rules.specs.Forks.{Stays, EdgesStay, Linked, EndAt, ForksAbove, ForkRow};
+ghost use Rattle.rules.specs.Parts.{parts_spec};
 
+use crate::inner::Inner;
 use crate::parts::Parts;
 use graphs::graph::Graph;
 use graphs::row::{Row, VERTICES};
@@ -16,24 +18,14 @@ use records::kinds::BlockKind;
 fn lowest(row: &Row) -> Option<usize>
     ensures { MatchOption result ((x : ℕ) → Holds row.now x → ⊥) (Lowest (Holds row.now)) }
 {
-    for x in 0..VERTICES {
-        if row.has(x) {
-            return Some(x);
-        }
-    }
-    None
+    (0..VERTICES).find(|&x| row.has(x))
 }
 
 /// Whether every vertex of the row is in the other row.
 fn within(row: &Row, other: &Row) -> bool
     ensures { T result ↔ ((x : ℕ) → Holds row.now x → Holds other.now x) }
 {
-    for x in 0..VERTICES {
-        if row.has(x) && !other.has(x) {
-            return false;
-        }
-    }
-    true
+    (0..VERTICES).all(|x| !row.has(x) || other.has(x))
 }
 
 /// Whether the row, where it holds `x`, holds `y` too, or `y` is `z`.
@@ -44,31 +36,14 @@ fn stays(row: &Row, x: usize, y: usize, z: usize) -> bool
 }
 
 impl Parts<'_> {
-    /// Whether edges into the row start in it or at the source of block `k`, and edges out of it end in it or at the sink.
-    fn edges_stay(&self, k: usize, row: &Row) -> bool
-        requires { k < length self.now.ends.now }
-        ensures { T result ↔ EdgesStay (parts_spec self.now) k row.now }
-    {
-        let source = self.ends[k].source as usize;
-        let sink = self.ends[k].sink as usize;
-        for e in self.edges {
-            let tail = e.tail as usize;
-            let head = e.head as usize;
-            if !stays(row, head, tail, source) || !stays(row, tail, head, sink) {
-                return false;
-            }
-        }
-        true
-    }
-
     /// The edges within the row, in both directions.
     fn links(&self, row: &Row) -> Graph
         ensures { (x y : ℕ) → Joins result x y ↔ Linked (parts_spec self.now) row.now x y }
     {
         let mut graph = Graph::new();
-        for e in self.edges {
-            let tail = e.tail as usize;
-            let head = e.head as usize;
+        for edge in self.edges {
+            let tail = edge.tail as usize;
+            let head = edge.head as usize;
             if row.has(tail) && row.has(head) {
                 graph.add(tail, head);
                 graph.add(head, tail);
@@ -83,12 +58,7 @@ impl Parts<'_> {
     {
         let mut graph = self.links(row);
         graph.close();
-        for y in 0..VERTICES {
-            if row.has(y) && y != x && !graph.has(x, y) {
-                return false;
-            }
-        }
-        true
+        (0..VERTICES).all(|y| !row.has(y) || y == x || graph.has(x, y))
     }
 
     /// Whether block `k` is a fork.
@@ -113,57 +83,71 @@ impl Parts<'_> {
         ensures { T result ↔ ForksAbove (parts_spec self.now) k x }
     {
         let home = self.vertices[x].home as usize;
-        for j in 1..self.nests.len() {
-            if self.is_fork(j) && self.leads_up(home, j) && !self.leads_up(k, j) {
-                return false;
-            }
-        }
-        true
+        (1..self.nests.len()).all(|j| !self.is_fork(j)
+            || !self.leads_up(home, j)
+            || self.leads_up(k, j))
+    }
+}
+
+impl Inner<'_> {
+    /// Whether edges into the row start in it or at the block's source, and edges out of it end in it or at the block's sink.
+    fn edges_stay(&self, row: &Row) -> bool
+        ensures { T result ↔ EdgesStay (inner_spec self.now) self.now.number row.now }
+    {
+        let ends = self.ends();
+        let source = ends.source as usize;
+        let sink = ends.sink as usize;
+        self.drawn.parts.edges.iter().all(|edge| {
+            let tail = edge.tail as usize;
+            let head = edge.head as usize;
+            stays(row, head, tail, source) && stays(row, tail, head, sink)
+        })
     }
 
-    /// Whether the ends of the fork `k` keep the rule of forks.
-    fn fork_ends(&self, k: usize) -> bool
-        requires { (0 < k) × (k < length self.now.nests.now) }
-        ensures { T result ↔ ForkEnds (parts_spec self.now) k }
+    /// Whether the row, one of whose vertices is `x`, keeps the rule of forks in the place of the block's domain.
+    fn fork_row(&self, row: &Row, x: usize) -> bool
+        ensures { T result ↔ ForkRow (inner_spec self.now) self.now.number row.now self.now.drawn.heads self.now.drawn.tails x }
     {
-        let parent = self.nests[k].parent as usize;
-        let outer = self.ends[parent];
-        let source = self.ends[k].source as usize;
-        let sink = self.ends[k].sink as usize;
-        self.end_at(parent, source, outer.source as usize)
-            && self.end_at(parent, sink, outer.sink as usize)
-            && self.forks_above(k, source)
-            && self.forks_above(k, sink)
+        let ends = self.ends();
+        !row.has(ends.source as usize)
+            && !row.has(ends.sink as usize)
+            && within(row, &self.drawn.heads)
+            && within(row, &self.drawn.tails)
+            && self.edges_stay(row)
+            && self.drawn.parts.connects(row, x)
     }
 
-    /// Whether the domain of the fork `k` keeps the rule of forks.
-    fn fork_domain(&self, k: usize, heads: &Row, tails: &Row) -> bool
-        requires k_nonzero { (0 < k) × (k < length self.now.nests.now) }
-        requires holds_heads { HoldsHeads (parts_spec self.now) heads.now }
-        requires holds_tails { HoldsTails (parts_spec self.now) tails.now }
-        ensures { T result ↔ ForkDomain (parts_spec self.now) k }
+    /// Whether the domain of the block keeps the rule of forks.
+    fn fork_domain(&self) -> bool
+        ensures { T result ↔ ForkDomain (inner_spec self.now) self.now.number }
     {
-        let domain = self.domain(k);
-        let ends = self.ends[k];
-        let Some(x) = lowest(&domain) else {
-            return false;
-        };
-        if domain.has(ends.source as usize) || domain.has(ends.sink as usize) {
-            return false;
+        let domain = self.domain();
+        match lowest(&domain) {
+            Some(x) => self.fork_row(&domain, x),
+            None => false,
         }
-        if !within(&domain, heads) || !within(&domain, tails) {
-            return false;
-        }
-        self.edges_stay(k, &domain) && self.connects(&domain, x)
     }
 
-    /// Whether the fork `k` keeps the rule of forks.
-    pub(crate) fn fork_rule(&self, k: usize, heads: &Row, tails: &Row) -> bool
-        requires k_nonzero { (0 < k) × (k < length self.now.nests.now) }
-        requires holds_heads { HoldsHeads (parts_spec self.now) heads.now }
-        requires holds_tails { HoldsTails (parts_spec self.now) tails.now }
-        ensures { T result ↔ KeepsForkRule (parts_spec self.now) k }
+    /// Whether the ends of the block keep the rule of forks.
+    fn fork_ends(&self) -> bool
+        ensures { T result ↔ ForkEnds (inner_spec self.now) self.now.number }
     {
-        self.fork_domain(k, heads, tails) && self.fork_ends(k)
+        let parts = &self.drawn.parts;
+        let parent = self.nest().parent as usize;
+        let outer = parts.ends[parent];
+        let ends = self.ends();
+        let source = ends.source as usize;
+        let sink = ends.sink as usize;
+        parts.end_at(parent, source, outer.source as usize)
+            && parts.end_at(parent, sink, outer.sink as usize)
+            && parts.forks_above(self.number, source)
+            && parts.forks_above(self.number, sink)
+    }
+
+    /// Whether the block keeps the rule of forks.
+    pub(crate) fn fork_rule(&self) -> bool
+        ensures { T result ↔ KeepsForkRule (inner_spec self.now) self.now.number }
+    {
+        self.fork_domain() && self.fork_ends()
     }
 }

@@ -1,8 +1,6 @@
 ghost use Rattle.rules.specs.Deciding.{SealingLaw};
 
 /// That a specification is sealed, or refused in one way only.
-pub fn sealing_law_stands() -> u8
+pub fn sealing_law_stands()
     ensures { SealingLaw }
-{
-    0
-}
+{}

@@ -1,21 +1,14 @@
 ghost use Rattle.std.specs.Prelude.{ℕ, ◌<◌, T, ◌↔◌, length};
-ghost use Rattle.model.specs.Specifications.{KeepsLoopRule};
-ghost use Rattle.rules.specs.Parts.{parts_spec, HoldsHeads, HoldsTails, tail_at, head_at};
-ghost use Rattle.rules.specs.Loops.{VertexKeeps, EdgeKeeps};
+ghost use Rattle.model.specs.Specifications.{Edge, KeepsLoopRule};
+ghost use Rattle.rules.specs.Blocks.{inner_spec};
+ghost use Rattle.rules.specs.Parts.{parts_spec};
+ghost use Rattle.rules.specs.Loops.{VertexKeeps, EdgeKeeps, LoopRow};
 
+use crate::drawn::Drawn;
+use crate::inner::Inner;
 use crate::parts::Parts;
 use graphs::row::Row;
 use records::kinds::{Ends, SpecEdge};
-
-/// Whether a vertex of the loop has the edges that it must have.
-fn vertex_keeps(domain: &Row, heads: &Row, tails: &Row, ends: Ends, x: usize) -> bool
-    ensures { T result ↔ VertexKeeps domain.now heads.now tails.now ends x }
-{
-    if !domain.has(x) {
-        return true;
-    }
-    (x == ends.source as usize || heads.has(x)) && (x == ends.sink as usize || tails.has(x))
-}
 
 /// Whether an edge enters the loop at its source and leaves it at its sink, if it does either.
 fn edge_keeps(domain: &Row, ends: Ends, edge: SpecEdge) -> bool
@@ -28,46 +21,51 @@ fn edge_keeps(domain: &Row, ends: Ends, edge: SpecEdge) -> bool
 }
 
 impl Parts<'_> {
-    fn loop_vertices(&self, domain: &Row, heads: &Row, tails: &Row, ends: Ends) -> bool
-        ensures { T result ↔ ((x : ℕ) → x < length self.now.vertices.now → VertexKeeps domain.now heads.now tails.now ends x) }
-    {
-        for x in 0..self.vertices.len() {
-            if !vertex_keeps(domain, heads, tails, ends, x) {
-                return false;
-            }
-        }
-        true
-    }
-
+    /// Whether every edge enters and leaves the loop as it may.
     fn loop_edges(&self, domain: &Row, ends: Ends) -> bool
-        ensures { T result ↔ ((i : ℕ) → i < length self.now.edges.now → EdgeKeeps domain.now ends (tail_at self.now.edges.now i) (head_at self.now.edges.now i)) }
+        ensures { T result ↔ ((x y : ℕ) → Edge (parts_spec self.now) x y → EdgeKeeps domain.now ends x y) }
     {
-        for edge in self.edges {
-            if !edge_keeps(domain, ends, *edge) {
-                return false;
-            }
-        }
-        true
+        self.edges
+            .iter()
+            .all(|edge| edge_keeps(domain, ends, *edge))
+    }
+}
+
+impl Drawn<'_> {
+    /// Whether vertex `x`, if it is in the loop, has the edges that it must have.
+    fn vertex_keeps(&self, domain: &Row, ends: Ends, x: usize) -> bool
+        ensures { T result ↔ VertexKeeps domain.now self.now.heads self.now.tails ends x }
+    {
+        !domain.has(x)
+            || (x == ends.source as usize || self.heads.has(x))
+                && (x == ends.sink as usize || self.tails.has(x))
     }
 
-    /// Whether the loop `k` keeps the rule of loops.
-    pub(crate) fn loop_rule(&self, k: usize, heads: &Row, tails: &Row) -> bool
-        requires k_nonzero { (0 < k) × (k < length self.now.nests.now) }
-        requires holds_heads { HoldsHeads (parts_spec self.now) heads.now }
-        requires holds_tails { HoldsTails (parts_spec self.now) tails.now }
-        ensures { T result ↔ KeepsLoopRule (parts_spec self.now) k }
+    /// Whether every vertex of the loop has the edges that it must have.
+    fn loop_vertices(&self, domain: &Row, ends: Ends) -> bool
+        ensures { T result ↔ ((x : ℕ) → x < length self.now.parts.vertices.now → VertexKeeps domain.now self.now.heads self.now.tails ends x) }
     {
-        let ends = self.ends[k];
-        let domain = self.domain(k);
-        if !domain.has(ends.source as usize) {
-            return false;
-        }
-        if !domain.has(ends.sink as usize) {
-            return false;
-        }
-        if !self.loop_vertices(&domain, heads, tails, ends) {
-            return false;
-        }
-        self.loop_edges(&domain, ends)
+        (0..self.parts.vertices.len()).all(|x| self.vertex_keeps(domain, ends, x))
+    }
+}
+
+impl Inner<'_> {
+    /// Whether the row keeps the rule of loops in the place of the block's domain.
+    fn loop_row(&self, row: &Row) -> bool
+        ensures { T result ↔ LoopRow (inner_spec self.now) self.now.number row.now self.now.drawn.heads self.now.drawn.tails }
+    {
+        let ends = self.ends();
+        row.has(ends.source as usize)
+            && row.has(ends.sink as usize)
+            && self.drawn.loop_vertices(row, ends)
+            && self.drawn.parts.loop_edges(row, ends)
+    }
+
+    /// Whether the block keeps the rule of loops.
+    pub(crate) fn loop_rule(&self) -> bool
+        ensures { T result ↔ KeepsLoopRule (inner_spec self.now) self.now.number }
+    {
+        let domain = self.domain();
+        self.loop_row(&domain)
     }
 }

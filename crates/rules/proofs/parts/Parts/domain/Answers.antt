@@ -1,13 +1,10 @@
-use Rattle.std.proofs.Common.{◌≡◌, ℕ, ◌+◌, ◌<◌, length, sym, subst, arith}
+use Rattle.std.proofs.Common.{ℕ, ◌+◌, ◌<◌, sym, subst, arith}
 use Rattle.model.specs.Specifications.{Domain}
 use Rattle.graphs.specs.declared.row.Row.{Row}
 use Rattle.rules.specs.Parts.{parts_spec}
-use Rattle.rules.proofs.Filling.{Filled, filled_none, filled_put, filled_skip}
+use Rattle.rules.proofs.Filling.{Filled, filled_put, filled_skip}
 use Rattle.rules.proofs.parts.Parts.domain.Goals as goal
 use Rattle.rules.proofs.parts.Parts.domain.Goals.{then-leads_up, else-leads_up}
-
-pub loop-x-init : goal.loop-x-init
-loop-x-init c = filled_none (Domain (parts_spec c.args.self.now) c.args.k) c.empty-row.result c.empty-row.ensures
 
 pub loop-x-preserved : goal.loop-x-preserved
 loop-x-preserved c =
@@ -18,8 +15,3 @@ loop-x-preserved c =
       | then-leads_up w ↦ subst (λ (r : Row). Filled P r (x + 1)) (sym w.row-is) (filled_put P c.loop-x.row _ x c.loop-x.invariant l (w.if-leads_up.ensures.0 tt) w.insert.ensures)
       | else-leads_up w ↦ subst (λ (r : Row). Filled P r (x + 1)) (sym w.row-is) (filled_skip P c.loop-x.row x c.loop-x.invariant w.if-leads_up.ensures.1)
     ]
-
-pub returns : goal.returns
-returns c =
-    let e : c.loop-x.x ≡ length c.args.self.now.vertices.now = omega arith in
-    subst (λ (n : ℕ). Filled (Domain (parts_spec c.args.self.now) c.args.k) c.loop-x.row n) e c.loop-x.invariant

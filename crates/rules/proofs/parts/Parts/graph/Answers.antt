@@ -1,10 +1,7 @@
 use Rattle.std.proofs.Common.{◌≡◌, ℕ, ◌<◌, length, subst, arith}
 use Rattle.rules.specs.Parts.{head_at, tail_at}
-use Rattle.rules.proofs.Edges.{Drawn, drawn_none, drawn_more, drawn_all}
+use Rattle.rules.proofs.Edges.{HasFirst, first_more, first_all}
 use Rattle.rules.proofs.parts.Parts.graph.Goals as goal
-
-pub loop-edge-init : goal.loop-edge-init
-loop-edge-init c = drawn_none c.args.self.now.edges.now c.new-graph.result c.new-graph.ensures
 
 pub loop-edge-preserved : goal.loop-edge-preserved
 loop-edge-preserved c =
@@ -13,10 +10,10 @@ loop-edge-preserved c =
     let e = p.edged i c.loop-edge-test.true in
     let t : tail_at p.edges.now i < 64 = omega (arith, e.0, p.few) in
     let h : head_at p.edges.now i < 64 = omega (arith, e.1, p.few) in
-    drawn_more p.edges.now c.loop-edge.graph c.add.new.self i c.loop-edge.invariant t h c.add.ensures
+    first_more p.edges.now c.loop-edge.graph c.add.new.self i c.loop-edge.invariant t h c.add.ensures
 
 pub returns : goal.returns
 returns c =
     let es = c.args.self.now.edges.now in
     let e : c.loop-edge.edge-index ≡ length es = omega arith in
-    drawn_all es c.loop-edge.graph (subst (λ (n : ℕ). Drawn es c.loop-edge.graph n) e c.loop-edge.invariant)
+    first_all es c.loop-edge.graph (subst (λ (n : ℕ). HasFirst es c.loop-edge.graph n) e c.loop-edge.invariant)

@@ -3,9 +3,6 @@ use Rattle.rules.proofs.Ranges.{falls_of}
 use Rattle.rules.proofs.Walk.{walk_on, walk_ends}
 use Rattle.rules.proofs.parts.Parts.leads_up.Goals as goal
 
-pub loop-at-smaller : goal.loop-at-smaller
-loop-at-smaller c = (c.args.self.now.nested c.loop-at.at (omega arith) c.loop-at.invariant.0).0
-
 pub loop-at-preserved : goal.loop-at-preserved
 loop-at-preserved c =
     let l : c.args.j < c.loop-at.at = omega arith in

@@ -1,19 +1,13 @@
-use Rattle.rules.proofs.PartsOf.{few_of, sized_as, edges_as, homes_as, whole_as, nests_as, ends_as}
 use Rattle.rules.proofs.parts.Parts.of.Goals as goal
 
-pub invariant_of-result : goal.invariant_of-result
-invariant_of-result c =
-    let s = c.args.specification.now in
-    let e = c.edges-edges.ensures in
-    let v = c.vertices-vertices.ensures in
-    let n = c.nests-nests.ensures in
-    let x = c.ends-ends.ensures in
-    record {
-      few = few_of s.vertices.items _ s.vertices.len 64 v s.vertices.fits;
-      sized = sized_as e v n x s.sized;
-      edged = edges_as e v n x s.edged;
-      housed = homes_as e v n x s.housed;
-      rooted = whole_as e v n x s.rooted;
-      nested = nests_as e v n x s.nested;
-      ended = ends_as e v n x s.ended;
-    }
+pub invariant_of-result-clause-edged : goal.invariant_of-result-clause-edged
+invariant_of-result-clause-edged c = rw (c.edges-edges.ensures, c.vertices-vertices.ensures) c.args.specification.now.edged
+
+pub invariant_of-result-clause-housed : goal.invariant_of-result-clause-housed
+invariant_of-result-clause-housed c = rw (c.vertices-vertices.ensures, c.nests-nests.ensures) c.args.specification.now.housed
+
+pub invariant_of-result-clause-nested : goal.invariant_of-result-clause-nested
+invariant_of-result-clause-nested c = rw c.nests-nests.ensures c.args.specification.now.nested
+
+pub invariant_of-result-clause-ended : goal.invariant_of-result-clause-ended
+invariant_of-result-clause-ended c = rw (c.ends-ends.ensures, c.vertices-vertices.ensures) c.args.specification.now.ended

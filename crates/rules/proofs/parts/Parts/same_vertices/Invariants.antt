@@ -1,6 +1,0 @@
-use Rattle.std.proofs.Common.{ℕ, ◌<◌, ◌↔◌}
-use Rattle.graphs.specs.Rows.{Holds}
-use Rattle.rules.proofs.parts.Parts.same_vertices.Given as goal
-
-abbrev pub invariant-loop-x : goal.invariant-loop-x
-invariant-loop-x l = (y : ℕ) → y < l.x → Holds l.a y ↔ Holds l.b y
