@@ -13,7 +13,7 @@ use Rattle.graphs.specs.Grids.{Marks}
 use Rattle.graphs.specs.declared.grid.Grid.{Grid}
 use Rattle.graphs.proofs.Grids.{marks_or}
 use Rattle.conformance.specs.Nonconforming.{Repeats, Once, ShortOf, Stepped}
-use Rattle.conformance.specs.Steps.{MarksSteps, PairFits}
+use Rattle.conformance.specs.Steps.{MarksSteps, PairFits, Unmarked}
 use Rattle.conformance.specs.Trials.{trial_spec, trial_run}
 use Rattle.conformance.specs.declared.trial.Trial.{Trial}
 
@@ -75,6 +75,13 @@ module _ (r : Run) (g : Grid copy_kind.ceiling) where
       subst (λ (n : ℕ). (i x : ℕ) → Marks g i x ↔ ((w : ℕ) × (w < n) × (r.context w ≡ i) × (r.origin w ≡ x))) e k.below,
     )
 
--- where the grid tells of the steps, copies that are not short of a step have all of theirs
-pub stepped_of : (s : Spec) (r : Run) (g : Grid copy_kind.ceiling) → MarksSteps r g → ((i : ℕ) → i < r.c → ShortOf s r i → ⊥) → Stepped s r
-stepped_of s r g k f i x l h e = elim (marks_or g i x) [ inl m ↦ (k i x).0 m | inr d ↦ absurd (f i l (l, (x, h, e, λ w. d ((k i x).1 w)))) ]
+-- where the grid tells of the steps, a copy is short of a step exactly if a vertex at home in its block is not marked with it
+module _ (s : Spec) (r : Run) (g : Grid copy_kind.ceiling) (k : MarksSteps r g) where
+  pub short_of_unmarked : {i : ℕ} → i < r.c → Unmarked s r g i → ShortOf s r i
+  short_of_unmarked {i} l u = (l, (u.0, u.1, u.2, λ h. u.3 ((k i u.0).1 h)))
+
+  pub unmarked_of_short : {i : ℕ} → ShortOf s r i → Unmarked s r g i
+  unmarked_of_short {i} p = let x = p.1 in (x.0, x.1, x.2, λ m. x.3 ((k i x.0).0 m))
+
+  pub stepped_of : ((i : ℕ) → i < r.c → ¬ (Unmarked s r g i)) → Stepped s r
+  stepped_of f i x l h e = elim (marks_or g i x) [ inl m ↦ (k i x).0 m | inr d ↦ absurd (f i l (x, h, e, d)) ]
