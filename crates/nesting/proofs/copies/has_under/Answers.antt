@@ -1,4 +1,4 @@
-use Rattle.std.proofs.Common.{◌≡◌, ℕ, arith, rules}
+use Rattle.std.proofs.Common.{◌≡◌, arith, rules}
 use Rattle.model.specs.Runs.{Run}
 use Rattle.formats.specs.RunFiles.{run_of}
 use Rattle.records.proofs.Chains.{any_in_range}

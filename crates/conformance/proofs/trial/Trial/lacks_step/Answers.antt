@@ -1,4 +1,4 @@
-use Rattle.std.proofs.Common.{◌≡◌, ℕ, arith, rules}
+use Rattle.std.proofs.Common.{◌≡◌, arith, rules}
 use Rattle.model.specs.Runs.{Run}
 use Rattle.model.specs.Specifications.{Spec}
 use Rattle.graphs.specs.Grids.{Marks}

@@ -1,4 +1,4 @@
-use Rattle.std.proofs.Common.{◌≡◌, ℕ, length, ap, arith, rules}
+use Rattle.std.proofs.Common.{◌≡◌, length, ap, arith, rules}
 use Rattle.model.specs.Runs.{Run}
 use Rattle.model.specs.Specifications.{Spec}
 use Rattle.formats.specs.Of.{spec_of}
