@@ -52,9 +52,6 @@ module _ (es : List RunEdge) (tails : TailsAscend es) (heads : HeadsAscend es) w
       pub under : (k : ℕ) → k < low → Below es u w k
       pub over : (k : ℕ) → high ≤ k → k < length es → ¬ (Below es u w k)
 
-    pub narrowed_all : Narrowed 0 (length es)
-    narrowed_all = record { in_order = omega arith; in_list = omega arith; under = λ k h. absurd (omega arith); over = λ k h l. absurd (omega arith) }
-
     pub narrowed_low : {low high : ℕ} (k : ℕ) → Narrowed low high → low ≤ k → k < high → Below es u w k → Narrowed (k + 1) high
     narrowed_low k n a h b = record {
       in_order = omega arith;

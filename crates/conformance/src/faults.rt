@@ -39,12 +39,12 @@ impl From<ReadingFault> for ConformanceFault {
     }
 }
 
-impl ConformanceFault {
+impl From<ConformanceFault> for Fault {
+    ghost from_gives = { λ f r. r ≡ conformance_fault f };
+
     /// Layer, number and place.
-    pub fn fault(self) -> Fault
-        ensures { result ≡ conformance_fault self }
-    {
-        match self {
+    fn from(fault: ConformanceFault) -> Self {
+        match fault {
             ConformanceFault::Nesting(fault) => fault.fault(),
             ConformanceFault::Astray { step } => Fault {
                 layer: 3,
@@ -72,5 +72,14 @@ impl ConformanceFault {
                 place: step,
             },
         }
+    }
+}
+
+impl ConformanceFault {
+    /// Layer, number and place.
+    pub fn fault(self) -> Fault
+        ensures { result ≡ conformance_fault self }
+    {
+        Fault::from(self)
     }
 }

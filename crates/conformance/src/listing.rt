@@ -11,8 +11,7 @@ impl Trial<'_> {
         ensures { T result ↔ Below (run_edges_of self.entry.run.bytes.now) u w k }
     {
         let edge = self.run.edge(k);
-        let tail = edge.tail as usize;
-        tail < u || tail == u && (edge.head as usize) < w
+        (edge.tail as usize, edge.head as usize) < (u, w)
     }
 
     /// Whether the edge from `u` to `w` stands at index `k`.
@@ -20,10 +19,11 @@ impl Trial<'_> {
         ensures { T result ↔ Stands (run_edges_of self.entry.run.bytes.now) u w k }
     {
         let edge = self.run.edge(k);
-        k < self.run.edges() && edge.tail as usize == u && edge.head as usize == w
+        k < self.run.edges() && (edge.tail as usize, edge.head as usize) == (u, w)
     }
 
-    /// Whether the run lists the edge from step `u` to step `w`. Edges ascend, so the place where it would stand is found by halving.
+    /// Whether the run lists the edge from step `u` to step `w`. Edges ascend, so the place where it would stand is found by halving. (By
+    /// hand, since the edges are read where they lie and are no slice.)
     pub(crate) fn listed(self, u: usize, w: usize) -> bool
         ensures { T result ↔ T ((trial_run self.entry).listed u w) }
     {

@@ -1,8 +1,8 @@
-ghost use Rattle.std.specs.Prelude.{◌≡◌, ℕ, ◌<◌, T, ◌⊎◌, ◌↔◌, MatchOption};
+ghost use Rattle.std.specs.Prelude.{◌≡◌, ℕ, T, ◌⊎◌, ◌↔◌, MatchOption};
 ghost use Rattle.formats.specs.Sections.{Lowest};
 ghost use Rattle.graphs.specs.Grids.{Marks};
 ghost use Rattle.conformance.specs.Nonconforming.{Astray, AtHome, Repeats, Once, ShortOf, Stepped};
-ghost use Rattle.conformance.specs.Steps.{MarksSteps, PairFits};
+ghost use Rattle.conformance.specs.Steps.{MarksSteps, PairFits, Unmarked};
 ghost use Rattle.conformance.specs.Trials.{trial_spec, trial_run};
 
 use crate::trial::Trial;
@@ -22,12 +22,7 @@ impl Trial<'_> {
     pub(crate) fn astray(self) -> Option<usize>
         ensures { MatchOption result (AtHome (trial_spec self.entry) (trial_run self.entry)) (Lowest (Astray (trial_spec self.entry) (trial_run self.entry))) }
     {
-        for u in 0..self.steps() {
-            if !self.at_home(u) {
-                return Some(u);
-            }
-        }
-        None
+        (0..self.steps()).find(|&u| !self.at_home(u))
     }
 
     /// Marks the context of step `u` with its origin; whether that pair was marked before.
@@ -43,7 +38,7 @@ impl Trial<'_> {
     }
 
     /// The lowest step with the context and the origin of an earlier one; where there is none, the grid, empty before, marks the context
-    /// of each step with its origin.
+    /// of each step with its origin. (A loop, since of what a closure writes as it goes through a range nothing is known after it.)
     pub(crate) fn repeated(self, grid: &mut Grid<{ RunCopy::CEILING }>) -> Option<usize>
         requires vertices_value { self.run.vertices ≡ (trial_spec self).n }
         requires by_index { (i x : ℕ) → Marks grid.old i x → ⊥ }
@@ -57,19 +52,12 @@ impl Trial<'_> {
         None
     }
 
-    /// Whether a vertex at home in the block of copy `i` has no step there.
+    /// Whether the grid does not mark copy `i` with some vertex at home in its block.
     fn lacks_step(self, grid: &Grid<{ RunCopy::CEILING }>, i: usize) -> bool
-        requires i_bound { i < (trial_run self).c }
-        requires marks_steps { MarksSteps (trial_run self) grid.now }
-        ensures { T result ↔ ShortOf (trial_spec self.entry) (trial_run self.entry) i }
+        ensures { T result ↔ Unmarked (trial_spec self.entry) (trial_run self.entry) grid.now i }
     {
         let block = self.block(i);
-        for x in 0..self.vertices() {
-            if self.home(x) == block && !grid.has(i, x) {
-                return true;
-            }
-        }
-        false
+        (0..self.vertices()).any(|x| self.home(x) == block && !grid.has(i, x))
     }
 
     /// The lowest copy that has no step of some vertex at home in its block.
@@ -77,11 +65,6 @@ impl Trial<'_> {
         requires { MarksSteps (trial_run self) grid.now }
         ensures { MatchOption result (Stepped (trial_spec self.entry) (trial_run self.entry)) (Lowest (ShortOf (trial_spec self.entry) (trial_run self.entry))) }
     {
-        for i in 0..self.copies() {
-            if self.lacks_step(grid, i) {
-                return Some(i);
-            }
-        }
-        None
+        (0..self.copies()).find(|&i| self.lacks_step(grid, i))
     }
 }

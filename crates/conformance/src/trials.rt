@@ -2,6 +2,7 @@ ghost use Rattle.std.specs.Prelude.{◌≡◌, T, ◌↔◌};
 ghost use Rattle.conformance.specs.Trials.{trial_spec, trial_run};
 
 use crate::trial::Trial;
+use records::kinds::BlockKind;
 
 // What the tables say, 0 where they have nothing.
 impl Trial<'_> {
@@ -58,7 +59,10 @@ impl Trial<'_> {
     pub(crate) fn is_loop(self, k: usize) -> bool
         ensures { T result ↔ ((trial_spec self.entry).kind k ≡ 2) }
     {
-        self.specification.nest(k).kind == 2
+        matches!(
+            self.specification.nest(k).block_kind(),
+            Some(BlockKind::Loop)
+        )
     }
 
     /// How many copies the run has.

@@ -1,6 +1,6 @@
-ghost use Rattle.std.specs.Prelude.{◌<◌, T, ◌↔◌, length, MatchOption, MatchResult};
+ghost use Rattle.std.specs.Prelude.{◌≡◌, T, ◌≢◌, ◌↔◌, MatchBool, MatchOption, MatchResult};
 ghost use Rattle.formats.specs.Of.{spec_of};
-ghost use Rattle.formats.specs.RunFiles.{copies_of, run_of};
+ghost use Rattle.formats.specs.RunFiles.{run_of};
 ghost use Rattle.formats.specs.Sections.{Lowest};
 ghost use Rattle.rules.specs.Faults.{nesting_fault};
 ghost use Rattle.nesting.specs.Copies.{Misplaced, Follows, Under, Lacks, Full, Lacking, Filled, Misnested};
@@ -9,70 +9,73 @@ use formats::run_file::RunFile;
 use formats::specification::Specification;
 use rules::faults::NestingFault;
 
-/// The lowest copy under a wrong parent.
-fn misplaced(specification: &Specification, run: RunFile) -> Option<usize>
-    ensures { MatchOption result (Follows (spec_of specification.now) (run_of run.entry.bytes.now)) (Lowest (Misplaced (spec_of specification.now) (run_of run.entry.bytes.now))) }
-{
-    for i in 0..run.copies() {
-        let copy = run.copy(i);
-        let outer = run.copy(copy.parent as usize);
-        if outer.block != specification.nest(copy.block as usize).parent {
-            return Some(i);
-        }
-    }
-    None
-}
-
-/// Whether a copy of block `k` stands directly under copy `i`. Such a copy comes after `i`.
-fn has_under(run: RunFile, i: usize, k: usize) -> bool
-    requires { i < length (copies_of run.bytes.now) }
+/// Whether a copy of block `k` stands directly under copy `i`.
+pub fn has_under(run: RunFile, i: usize, k: usize) -> bool
     ensures { T result ↔ Under (run_of run.entry.bytes.now) i k }
 {
-    let copies = run.copies();
-    for j in i + 1..copies {
+    (1..run.copies()).any(|j| {
         let copy = run.copy(j);
-        if copy.parent as usize == i && copy.block as usize == k {
-            return true;
-        }
-    }
-    false
+        copy.parent as usize == i && copy.block as usize == k
+    })
 }
 
-/// The lowest block of which copy `i` lacks a copy under it. No two scans find the same copy, and one that finds none ends the check, so
-/// that over all copies there is at most one scan more than there are copies.
-fn lacked(specification: &Specification, run: RunFile, i: usize) -> Option<usize>
-    requires { i < length (copies_of run.bytes.now) }
-    ensures { MatchOption result (Full (spec_of specification.now) (run_of run.entry.bytes.now) i) (Lowest (Lacks (spec_of specification.now) (run_of run.entry.bytes.now) i)) }
-{
-    let block = run.copy(i).block;
-    for k in 1..specification.nests().len() {
-        if specification.nest(k).parent == block && !has_under(run, i, k) {
-            return Some(k);
-        }
-    }
-    None
+/// The copies of a run, beside the specification whose blocks they are to be nested as. (A crate above has its own such pair: an `impl`
+/// stands only in the crate of its type.)
+#[derive(Clone, Copy)]
+struct Copies<'a> {
+    specification: &'a Specification,
+    run: RunFile<'a>,
 }
 
-/// The lowest copy that lacks one under it.
-fn lacking(specification: &Specification, run: RunFile) -> Option<usize>
-    ensures { MatchOption result (Filled (spec_of specification.now) (run_of run.entry.bytes.now)) (Lowest (Lacking (spec_of specification.now) (run_of run.entry.bytes.now))) }
-{
-    for i in 0..run.copies() {
-        if let Some(_) = lacked(specification, run, i) {
-            return Some(i);
-        }
+impl Copies<'_> {
+    /// Whether copy `i` stands under a copy of another block than the parent of its block.
+    fn is_misplaced(self, i: usize) -> bool
+        ensures { T result ↔ ((run_of self.entry.run.bytes.now).block ((run_of self.entry.run.bytes.now).parent i) ≢ (spec_of self.entry.specification.now).above ((run_of self.entry.run.bytes.now).block i)) }
+    {
+        let copy = self.run.copy(i);
+        let outer = self.run.copy(copy.parent as usize);
+        outer.block != self.specification.nest(copy.block as usize).parent
     }
-    None
+
+    /// The lowest copy under a wrong parent.
+    fn misplaced(self) -> Option<usize>
+        ensures { MatchOption result (Follows (spec_of self.entry.specification.now) (run_of self.entry.run.bytes.now)) (Lowest (Misplaced (spec_of self.entry.specification.now) (run_of self.entry.run.bytes.now))) }
+    {
+        (0..self.run.copies()).find(|&i| self.is_misplaced(i))
+    }
+
+    /// Whether copy `i` lacks a copy of block `k` under it: the block's parent is the block of the copy, and there is none.
+    fn lacks(self, i: usize, k: usize) -> bool
+        ensures { MatchBool result (((spec_of self.entry.specification.now).above k ≡ (run_of self.entry.run.bytes.now).block i) × (¬ (Under (run_of self.entry.run.bytes.now) i k))) ((spec_of self.entry.specification.now).above k ≡ (run_of self.entry.run.bytes.now).block i → Under (run_of self.entry.run.bytes.now) i k) }
+    {
+        self.specification.nest(k).parent == self.run.copy(i).block && !has_under(self.run, i, k)
+    }
+
+    /// The lowest block of which copy `i` lacks a copy under it. No two scans find the same copy, and one that finds none ends the check,
+    /// so that over all copies there is at most one scan more than there are copies.
+    fn lacked(self, i: usize) -> Option<usize>
+        ensures { MatchOption result (Full (spec_of self.entry.specification.now) (run_of self.entry.run.bytes.now) i) (Lowest (Lacks (spec_of self.entry.specification.now) (run_of self.entry.run.bytes.now) i)) }
+    {
+        (1..self.specification.nests().len()).find(|&k| self.lacks(i, k))
+    }
+
+    /// The lowest copy that lacks one under it.
+    fn lacking(self) -> Option<usize>
+        ensures { MatchOption result (Filled (spec_of self.entry.specification.now) (run_of self.entry.run.bytes.now)) (Lowest (Lacking (spec_of self.entry.specification.now) (run_of self.entry.run.bytes.now))) }
+    {
+        (0..self.run.copies()).find(|&i| self.lacked(i).is_some())
+    }
 }
 
 /// Whether the copies of a run are nested as the blocks of the specification are.
 pub fn check_copies(specification: &Specification, run: RunFile) -> Result<(), NestingFault>
     ensures { MatchResult result (λ _. Follows (spec_of specification.now) (run_of run.entry.bytes.now) × Filled (spec_of specification.now) (run_of run.entry.bytes.now)) (λ f. Misnested (spec_of specification.now) (run_of run.entry.bytes.now) (nesting_fault f)) }
 {
-    if let Some(copy) = misplaced(specification, run) {
+    let copies = Copies { specification, run };
+    if let Some(copy) = copies.misplaced() {
         return Err(NestingFault::WrongParent { copy });
     }
-    if let Some(copy) = lacking(specification, run) {
+    if let Some(copy) = copies.lacking() {
         return Err(NestingFault::LacksCopy { copy });
     }
     Ok(())

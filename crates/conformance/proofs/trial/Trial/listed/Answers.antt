@@ -1,19 +1,7 @@
-use Rattle.std.proofs.Common.{sym, subst, arith}
+use Rattle.std.proofs.Common.{arith}
 use Rattle.formats.specs.RunFiles.{run_edges_of}
-use Rattle.conformance.proofs.Halving.{Narrowed, narrowed_all, narrowed_low, narrowed_high, narrowed_done}
+use Rattle.conformance.proofs.Halving.{narrowed_low, narrowed_high, narrowed_done}
 use Rattle.conformance.proofs.trial.Trial.listed.Goals as goal
-
-pub loop-low-init : goal.loop-low-init
-loop-low-init c =
-    let f = c.args.self.run in
-    let es = run_edges_of f.bytes.now in
-    subst (λ high. Narrowed es f.tails f.heads c.args.u c.args.w 0 high) (sym c.edges-high.ensures) (narrowed_all es f.tails f.heads c.args.u c.args.w)
-
-pub overflow_add-middle : goal.overflow_add-middle
-overflow_add-middle c = omega (arith, c.edges-high.type_inv)
-
-pub overflow_add-low : goal.overflow_add-low
-overflow_add-low c = omega (arith, c.edges-high.type_inv)
 
 pub loop-low-preserved-then-comes_before : goal.loop-low-preserved-then-comes_before
 loop-low-preserved-then-comes_before c =

@@ -1,10 +1,7 @@
 use Rattle.std.proofs.Common.{arith}
 use Rattle.conformance.specs.Trials.{trial_run}
-use Rattle.conformance.proofs.Marking.{pair_fits, marking_none, marking_repeats, marking_more, marking_all}
+use Rattle.conformance.proofs.Marking.{pair_fits, marking_repeats, marking_more, marking_all}
 use Rattle.conformance.proofs.trial.Trial.repeated.Goals as goal
-
-pub loop-u-init : goal.loop-u-init
-loop-u-init c = marking_none (trial_run c.args.self) c.args.grid.now c.requires.by_index
 
 pub returns-then-mark : goal.returns-then-mark
 returns-then-mark c = marking_repeats (trial_run c.args.self) c.loop-u.grid c.loop-u.u c.loop-u.invariant (omega arith) (c.if-mark.ensures.was.0 tt)
