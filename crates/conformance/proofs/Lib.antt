@@ -10,5 +10,4 @@ pub mod SameEdges
 pub mod Marking
 pub mod Decided
 pub mod Deriving
-pub mod Places
 pub mod Checked

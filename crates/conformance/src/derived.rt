@@ -26,9 +26,10 @@ impl Trial<'_> {
         if !self.is_loop(self.block(q)) {
             return true;
         }
+        let place = groups.place(q);
         match which {
-            End::First => groups.is_first(q),
-            End::Last => groups.next(q) == 0,
+            End::First => place.first,
+            End::Last => place.next.is_none(),
         }
     }
 
@@ -85,7 +86,7 @@ impl Trial<'_> {
         requires { (Grouped (trial_run self) groups.now) × ((0 < a) × ((a < (trial_run self).c) × (0 < b))) }
         ensures { T result ↔ Next (trial_run self.entry) a b }
     {
-        groups.next(a) == b
+        groups.place(a).next == Some(b)
     }
 
     /// Whether copy `a` is of a loop and copy `b` the next of its group, step `u` an execution of the loop's sink and step `w` one of its
