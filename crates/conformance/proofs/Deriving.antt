@@ -2,14 +2,12 @@
 use Rattle.std.proofs.Common.{◌≡◌, ℕ, ◌<◌, Bool, true, false, T, ◌≢◌, ◌↔◌, sym, subst, arith}
 use Rattle.model.specs.Meetings.{Meets, PlainAt, BackAt}
 use Rattle.model.specs.Runs.{Lasts, Firsts, Placed, Plain, Back}
+use Rattle.model.specs.Specifications.{Edge}
 use Rattle.model.proofs.Cases.{cases}
 use Rattle.model.proofs.Chains.{chain_le}
 use Rattle.model.proofs.Meetings.{meets_flip, meets_left, meets_right, plain_meets, back_meets}
-use Rattle.graphs.specs.Graphs.{Joins}
-use Rattle.graphs.specs.declared.graph.Graph.{Graph}
-use Rattle.conformance.specs.Deriving.{ByGroup, Ready, StepsMeet, Turns, Under}
+use Rattle.conformance.specs.Deriving.{ByGroup, StepsMeet, Turns, Under}
 use Rattle.conformance.specs.Trials.{trial_run, trial_spec}
-use Rattle.conformance.specs.declared.group_table.Groups.{Groups}
 use Rattle.conformance.specs.declared.meetings.Meeting.{Meeting}
 use Rattle.conformance.specs.declared.trial.Trial.{Trial}
 use Rattle.conformance.proofs.RunRanges.{trial_falls, trial_nest, trial_context}
@@ -50,9 +48,6 @@ module _ (t : Trial) {u w : ℕ} {meeting : Meeting} (M : StepsMeet (trial_run t
 
   pub left_pos : ByGroup (trial_run t) meeting.common meeting.left meeting.right → 0 < meeting.left
   left_pos g = end_pos M.chains_meet g.0
-
-  pub right_pos : ByGroup (trial_run t) meeting.common meeting.left meeting.right → 0 < meeting.right
-  right_pos g = end_pos (meets_flip M.chains_meet) g.1
 
   pub left_range : meeting.left < (trial_run t).c
   left_range = omega (arith, chain_le (trial_falls t) M.chains_meet.from_left, trial_context t M.tail_step)
@@ -95,18 +90,11 @@ module _ (t : Trial) {u w : ℕ} {meeting : Meeting} (M : StepsMeet (trial_run t
       λ E. let B = back_of.0 E in h.1 (B.lasts_left, B.firsts_right),
     )
 
-  pub plain_told : {edges : Graph} {groups : Groups} → Ready (trial_spec t) (trial_run t) edges groups
-      → {a b : ℕ} → a ≡ (trial_run t).origin u → b ≡ (trial_run t).origin w → Joins edges a b
-      → (¬ (ByGroup (trial_run t) meeting.common meeting.left meeting.right))
-      → (x : Bool)
-      → (T x ↔ (Lasts (trial_spec t) (trial_run t) ((trial_run t).context u) meeting.common × Firsts (trial_spec t) (trial_run t) ((trial_run t).context w) meeting.common))
-      → T x ↔ Plain (trial_spec t) (trial_run t) u w
-  plain_told {edges} Y {b = b} ea eb j g x h = (
-    λ y. (plain_of Y.placed).1 (record {
-      spec_edge = (Y.drawn ((trial_run t).origin u) ((trial_run t).origin w)).0 (subst (Joins edges ((trial_run t).origin u)) eb (subst (λ (k : ℕ). Joins edges k b) ea j));
-      no_group = g;
-      lasts_left = (h.0 y).0;
-      firsts_right = (h.0 y).1;
-    }),
-    λ E. let B = (plain_of Y.placed).0 E in h.1 (B.lasts_left, B.firsts_right),
-  )
+    pub plain_told : Edge (trial_spec t) ((trial_run t).origin u) ((trial_run t).origin w) → (¬ (ByGroup (trial_run t) meeting.common meeting.left meeting.right))
+        → (x : Bool)
+        → (T x ↔ (Lasts (trial_spec t) (trial_run t) ((trial_run t).context u) meeting.common × Firsts (trial_spec t) (trial_run t) ((trial_run t).context w) meeting.common))
+        → T x ↔ Plain (trial_spec t) (trial_run t) u w
+    plain_told j g x h = (
+      λ y. plain_of.1 (record { spec_edge = j; no_group = g; lasts_left = (h.0 y).0; firsts_right = (h.0 y).1 }),
+      λ E. let B = plain_of.0 E in h.1 (B.lasts_left, B.firsts_right),
+    )

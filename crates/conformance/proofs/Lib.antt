@@ -10,4 +10,6 @@ pub mod SameEdges
 pub mod Marking
 pub mod Decided
 pub mod Deriving
+pub mod Kept
+pub mod Ranges
 pub mod Checked

@@ -1,23 +1,12 @@
-ghost use Rattle.std.specs.Prelude.{◌≡◌, ◌<◌, T, ◌↔◌, slice_index_or};
+ghost use Rattle.std.specs.Prelude.{◌<◌, T, ◌↔◌};
 ghost use Rattle.model.specs.Runs.{First};
-ghost use Rattle.records.specs.Kinds.{copy_kind};
-ghost use Rattle.conformance.specs.Groups.{Alike, NextOrLast, GroupPlace, Grouped, no_place};
+ghost use Rattle.conformance.specs.Groups.{Alike, NextOrLast, GroupPlace, Grouped};
 ghost use Rattle.conformance.specs.Trials.{trial_run};
 
 use crate::group_table::{Groups, Place};
 use crate::trial::Trial;
 use records::kinds::RunCopy;
 use records::record::Record;
-
-impl Groups {
-    /// The place of copy `q`.
-    pub(crate) fn place(&self, q: usize) -> Place
-        requires { q < copy_kind.ceiling }
-        ensures { result ≡ slice_index_or self.now.places q no_place }
-    {
-        self.places[q]
-    }
-}
 
 // The groups of a run, each copy compared with the others.
 impl Trial<'_> {
