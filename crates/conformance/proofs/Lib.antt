@@ -6,7 +6,6 @@ pub mod RunRanges
 pub mod Walking
 pub mod Climbing
 pub mod Assembly
-pub mod SameEdges
 pub mod Marking
 pub mod Decided
 pub mod Deriving

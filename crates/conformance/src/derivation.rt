@@ -1,7 +1,8 @@
 ghost use Rattle.std.specs.Prelude.{◌≡◌};
+ghost use Rattle.std.proofs.Props.{props};
 ghost use Rattle.model.specs.Runs.{Placed};
 ghost use Rattle.conformance.specs.Groups.{Grouped};
-ghost use Rattle.conformance.specs.Links.{HasEdges, Linked};
+ghost use Rattle.conformance.specs.Links.{HasEdges, Linked, joins_prop};
 ghost use Rattle.conformance.specs.Trials.{trial_run, trial_spec};
 
 use crate::group_table::Groups;
@@ -18,9 +19,9 @@ pub(crate) struct Derivation<'a> {
     pub(crate) links: Graph,
     pub(crate) groups: Groups,
     ghost placed: { ∥ Placed (trial_spec trial) (trial_run trial) ∥₁ },
-    ghost drawn: { ∥ HasEdges (trial_spec trial) edges ∥₁ },
+    ghost drawn: { HasEdges (trial_spec trial) edges } by { Prim.hlevel (props, joins_prop) },
     ghost linked: { ∥ Linked (trial_spec trial) links ∥₁ },
-    ghost grouped: { ∥ Grouped (trial_run trial) groups ∥₁ },
+    ghost grouped: { Grouped (trial_run trial) groups } by { Prim.hlevel props },
 }
 
 impl<'a> Derivation<'a> {

@@ -95,6 +95,14 @@ impl Derivation<'_> {
         self.has_edge(u, w) && self.last_to_first(u, w, meeting.common, meeting.common)
     }
 
+    /// Whether copy `b` is the next after copy `a` in its group.
+    fn is_next(&self, a: usize, b: usize) -> bool
+        requires { (0 < a) × (a < (trial_run self.now.trial).c) }
+        ensures { T result ↔ Next (trial_run self.now.trial) a b }
+    {
+        self.place(a).next == Some(b)
+    }
+
     /// Whether copy `a` is of a loop and copy `b` the next of its group, step `u` an execution of the loop's sink and step `w` one of its
     /// source.
     fn turns(&self, u: usize, w: usize, a: usize, b: usize) -> bool
@@ -105,7 +113,7 @@ impl Derivation<'_> {
         self.trial.is_loop(k)
             && self.trial.origin(u) == self.trial.sink(k)
             && self.trial.origin(w) == self.trial.source(k)
-            && self.place(a).next == Some(b)
+            && self.is_next(a, b)
     }
 
     /// Whether the edge from step `u` to step `w`, which leads from one copy of a group to another, is derived from a loop that turned.

@@ -1,9 +1,6 @@
-use Rattle.conformance.proofs.Climbing.{climbed_none, climbed_fails, climbed_pos, climbed_less, climbed_more, climbed_all}
+use Rattle.conformance.proofs.Climbing.{climbed_fails, climbed_pos, climbed_less, climbed_more, climbed_all}
 use Rattle.conformance.proofs.RunRanges.{trial_falls}
 use Rattle.conformance.proofs.derivation.Derivation.all_at_end.Goals as goal
-
-pub loop-q-init : goal.loop-q-init
-loop-q-init c = climbed_none c.requires.1 c.requires.0
 
 pub at_end-requires : goal.at_end-requires
 at_end-requires c = (climbed_pos (trial_falls c.args.self.now.trial) c.loop-q.invariant c.loop-q-test.true, c.loop-q.invariant.is_copy)

@@ -1,6 +1,4 @@
 use Rattle.std.proofs.Common.{arith}
-use Rattle.conformance.specs.Trials.{trial_run}
-use Rattle.conformance.proofs.Kept.{place_kept}
 use Rattle.conformance.proofs.RunRanges.{copies_few}
 use Rattle.conformance.proofs.derivation.Derivation.place.Goals as goal
 
@@ -11,4 +9,4 @@ pub offset_bounds-self-q : goal.offset_bounds-self-q
 offset_bounds-self-q c = omega (arith, c.requires.1, copies_few c.args.self.now.trial)
 
 pub returns : goal.returns
-returns c = let d = c.args.self.now in place_kept (trial_run d.trial) d.groups d.grouped c.args.q c.requires.0 c.requires.1
+returns c = c.args.self.now.grouped c.args.q c.requires.0 c.requires.1

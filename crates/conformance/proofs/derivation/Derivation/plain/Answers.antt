@@ -1,4 +1,3 @@
-use Rattle.std.proofs.Common.{T, subst}
 use Rattle.conformance.proofs.Deriving.{under_common, plain_told}
 use Rattle.conformance.proofs.Kept.{placed_kept}
 use Rattle.conformance.proofs.derivation.Derivation.plain.Goals as goal
@@ -10,6 +9,3 @@ pub returns-then-has_edge : goal.returns-then-has_edge
 returns-then-has_edge c =
     let d = c.args.self.now in
     plain_told d.trial c.requires.steps_meet (placed_kept d.placed) (c.if-has_edge.ensures.0 tt) c.requires.no_group c.last_to_first.result c.last_to_first.ensures
-
-pub returns-else-has_edge : goal.returns-else-has_edge
-returns-else-has_edge c = (λ h. absurd (subst T c.if-has_edge.false h), λ E. c.has_edge.ensures.1 E.plain_edge)
