@@ -1,15 +1,11 @@
--- From opening a run file and checking it to the verdict, and to what the place then holds.
-use Rattle.std.proofs.Common.{◌≡◌, ℕ, List, Ok, Err, Result, ◌∙◌, subst, MatchResult}
+-- From opening a run file to what the place for it then holds.
+use Rattle.std.proofs.Common.{◌≡◌, ℕ, List, ◌∙◌, subst}
 use Rattle.model.specs.Specifications.{Spec}
-use Rattle.model.specs.Runs.{Conforms}
-use Rattle.formats.specs.RunFiles.{run_of, RunAccepted, RunRefused}
+use Rattle.formats.specs.RunFiles.{RunAccepted, RunRefused}
 use Rattle.formats.specs.declared.faults.Fault.{Fault}
 use Rattle.formats.specs.declared.run_file.RunFile.{RunFile}
 use Rattle.formats.proofs.Decided.{run_reading_law}
-use Rattle.conformance.specs.Deciding.{RunConforms, TurnedDown, not_conforming, PlaceAfter}
-use Rattle.conformance.specs.Faults.{conformance_fault}
-use Rattle.conformance.specs.Nonconforming.{Nonconforming}
-use Rattle.conformance.specs.declared.faults.ConformanceFault.{ConformanceFault}
+use Rattle.conformance.specs.Deciding.{PlaceAfter}
 
 -- n and b as the code counted them
 module _ (s : Spec) (bytes : List ℕ) {n b : ℕ} (at_n : n ≡ s.n) (at_b : b ≡ s.b) where
@@ -27,9 +23,3 @@ module _ (s : Spec) (bytes : List ℕ) {n b : ℕ} (at_n : n ≡ s.n) (at_b : b 
     held = λ x. (e, v ∙ at_n, k ∙ at_b);
     left = λ f r. absurd ((run_reading_law s.n s.b bytes).never_both (accepted_as a) f r);
   }
-
-pub verdict_as : {X : Type 0} (r : Result X ConformanceFault) {s s' : Spec} {bytes bytes' : List ℕ} → s ≡ s' → bytes ≡ bytes' → RunAccepted s'.n s'.b bytes'
-    → MatchResult r (λ _. Conforms s (run_of bytes)) (λ f. Nonconforming s bytes (conformance_fault f))
-    → MatchResult r (λ _. RunConforms s' bytes') (λ f. TurnedDown s' bytes' (conformance_fault f))
-verdict_as (Ok x) {s} {s'} {bytes} e d a h = record { opened = a; conforms = subst (λ z. Conforms s' (run_of z)) d (subst (λ t. Conforms t (run_of bytes)) e h) }
-verdict_as (Err f) {s} {s'} {bytes} e d a h = not_conforming a (subst (λ z. Nonconforming s' z (conformance_fault f)) d (subst (λ t. Nonconforming t bytes (conformance_fault f)) e h))

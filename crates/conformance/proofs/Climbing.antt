@@ -15,9 +15,6 @@ pub record Climbed (s : Spec) (r : Run) (P : ℕ → Type 0) (i d q : ℕ) : Typ
   pub left_over : Alls s r P i d → Alls s r P q d
 
 module _ {s : Spec} {r : Run} {P : ℕ → Type 0} where
-  pub climbed_none : {i d : ℕ} → i < r.c → Chain r.parent i d → Climbed s r P i d i
-  climbed_none h c = record { is_copy = h; ahead = c; passed = λ a. a; left_over = λ a. a }
-
   -- a loop copy on the way of which P does not hold
   pub climbed_fails : {i d q : ℕ} → Climbed s r P i d q → q ≢ d → (¬ (s.kind (r.block q) ≡ 2 → P q)) → ¬ (Alls s r P i d)
   climbed_fails C g n all = n (alls_here s r P C.ahead g (C.left_over all))

@@ -1,47 +1,22 @@
 -- The parts of the check of derived edges, put together.
-use Rattle.std.proofs.Common.{◌≡◌, ℕ, ◌<◌, Bool, true, false, T, ◌≢◌, ◌↔◌, sym, subst, arith}
+use Rattle.std.proofs.Common.{ℕ, ◌<◌, Bool, T, ◌≢◌, ◌↔◌, sym, arith}
 use Rattle.model.specs.Meetings.{Meets, PlainAt, BackAt}
 use Rattle.model.specs.Runs.{Lasts, Firsts, Placed, Plain, Back}
+use Rattle.model.specs.Specifications.{Edge}
 use Rattle.model.proofs.Cases.{cases}
 use Rattle.model.proofs.Chains.{chain_le}
 use Rattle.model.proofs.Meetings.{meets_flip, meets_left, meets_right, plain_meets, back_meets}
-use Rattle.graphs.specs.Graphs.{Graph, Joins}
-use Rattle.conformance.specs.Deriving.{ByGroup, Ready, StepsMeet, Turns, Under}
+use Rattle.conformance.specs.Deriving.{ByGroup, StepsMeet, Turns, Under}
 use Rattle.conformance.specs.Trials.{trial_run, trial_spec}
-use Rattle.conformance.specs.declared.group_table.Groups.{Groups}
 use Rattle.conformance.specs.declared.meetings.Meeting.{Meeting}
 use Rattle.conformance.specs.declared.trial.Trial.{Trial}
 use Rattle.conformance.proofs.RunRanges.{trial_falls, trial_nest, trial_context}
-
--- two tests in a row, the first passed or failed, each of a context
-
-module _ (t : Trial) (u w a b : ℕ) where
-  pub both_then : {i j : ℕ} {x : Bool} (y : Bool) → i ≡ (trial_run t).context u → j ≡ (trial_run t).context w → x ≡ true
-      → (T x ↔ Lasts (trial_spec t) (trial_run t) i a) → (T y ↔ Firsts (trial_spec t) (trial_run t) j b)
-      → T y ↔ (Lasts (trial_spec t) (trial_run t) ((trial_run t).context u) a × Firsts (trial_spec t) (trial_run t) ((trial_run t).context w) b)
-  both_then y ei ej e p q = (
-    λ h. (
-      subst (λ (k : ℕ). Lasts (trial_spec t) (trial_run t) k a) ei (p.0 (subst T (sym e) tt)),
-      subst (λ (k : ℕ). Firsts (trial_spec t) (trial_run t) k b) ej (q.0 h),
-    ),
-    λ h. q.1 (subst (λ (k : ℕ). Firsts (trial_spec t) (trial_run t) k b) (sym ej) h.1),
-  )
-
-  pub both_else : {i : ℕ} {x : Bool} → i ≡ (trial_run t).context u → x ≡ false → (T x ↔ Lasts (trial_spec t) (trial_run t) i a)
-      → T x ↔ (Lasts (trial_spec t) (trial_run t) ((trial_run t).context u) a × Firsts (trial_spec t) (trial_run t) ((trial_run t).context w) b)
-  both_else ei e p = (λ h. absurd (subst T e h), λ h. p.1 (subst (λ (k : ℕ). Lasts (trial_spec t) (trial_run t) k a) (sym ei) h.0))
 
 -- a child of the meeting, if that is not the start itself, has a number above 0
 end_pos : {p : ℕ → ℕ} {i j m a b : ℕ} → Meets p i j m a b → a ≢ m → 0 < a
 end_pos M d = cases M.left_end (λ x. absurd (d x.1)) (λ x. x.0)
 
 module _ (t : Trial) {u w : ℕ} {meeting : Meeting} (M : StepsMeet (trial_run t) u w meeting) where
-  pub under_left : Under (trial_run t) u meeting.left
-  under_left = (M.tail_step, M.chains_meet.from_left)
-
-  pub under_right : Under (trial_run t) w meeting.right
-  under_right = (M.head_step, M.chains_meet.from_right)
-
   pub under_common : Under (trial_run t) u meeting.common × Under (trial_run t) w meeting.common
   under_common = ((M.tail_step, meets_left M.chains_meet), (M.head_step, meets_right M.chains_meet))
 
@@ -49,9 +24,6 @@ module _ (t : Trial) {u w : ℕ} {meeting : Meeting} (M : StepsMeet (trial_run t
 
   pub left_pos : ByGroup (trial_run t) meeting.common meeting.left meeting.right → 0 < meeting.left
   left_pos g = end_pos M.chains_meet g.0
-
-  pub right_pos : ByGroup (trial_run t) meeting.common meeting.left meeting.right → 0 < meeting.right
-  right_pos g = end_pos (meets_flip M.chains_meet) g.1
 
   pub left_range : meeting.left < (trial_run t).c
   left_range = omega (arith, chain_le (trial_falls t) M.chains_meet.from_left, trial_context t M.tail_step)
@@ -94,18 +66,11 @@ module _ (t : Trial) {u w : ℕ} {meeting : Meeting} (M : StepsMeet (trial_run t
       λ E. let B = back_of.0 E in h.1 (B.lasts_left, B.firsts_right),
     )
 
-  pub plain_told : {edges : Graph} {groups : Groups} → Ready (trial_spec t) (trial_run t) edges groups
-      → {a b : ℕ} → a ≡ (trial_run t).origin u → b ≡ (trial_run t).origin w → Joins edges a b
-      → (¬ (ByGroup (trial_run t) meeting.common meeting.left meeting.right))
-      → (x : Bool)
-      → (T x ↔ (Lasts (trial_spec t) (trial_run t) ((trial_run t).context u) meeting.common × Firsts (trial_spec t) (trial_run t) ((trial_run t).context w) meeting.common))
-      → T x ↔ Plain (trial_spec t) (trial_run t) u w
-  plain_told {edges} Y {b = b} ea eb j g x h = (
-    λ y. (plain_of Y.placed).1 (record {
-      spec_edge = (Y.drawn ((trial_run t).origin u) ((trial_run t).origin w)).0 (subst (Joins edges ((trial_run t).origin u)) eb (subst (λ (k : ℕ). Joins edges k b) ea j));
-      no_group = g;
-      lasts_left = (h.0 y).0;
-      firsts_right = (h.0 y).1;
-    }),
-    λ E. let B = (plain_of Y.placed).0 E in h.1 (B.lasts_left, B.firsts_right),
-  )
+    pub plain_told : Edge (trial_spec t) ((trial_run t).origin u) ((trial_run t).origin w) → (¬ (ByGroup (trial_run t) meeting.common meeting.left meeting.right))
+        → (x : Bool)
+        → (T x ↔ (Lasts (trial_spec t) (trial_run t) ((trial_run t).context u) meeting.common × Firsts (trial_spec t) (trial_run t) ((trial_run t).context w) meeting.common))
+        → T x ↔ Plain (trial_spec t) (trial_run t) u w
+    plain_told j g x h = (
+      λ y. plain_of.1 (record { spec_edge = j; no_group = g; lasts_left = (h.0 y).0; firsts_right = (h.0 y).1 }),
+      λ E. let B = plain_of.0 E in h.1 (B.lasts_left, B.firsts_right),
+    )

@@ -1,29 +1,44 @@
 -- Groups found by comparing copies, and a table of them filled copy by copy.
-use Rattle.std.proofs.Common.{◌≡◌, ℕ, ◌+◌, ◌<◌, Bool, false, T, ◌≢◌, ◌↔◌, List, length, get_or, set, arith, length-set, get_or-set_other, get_or-set_same, below_more}
-use Rattle.model.specs.Runs.{Run, First}
-use Rattle.conformance.specs.Groups.{Alike, NextOrLast, GroupPlace}
+use Rattle.std.proofs.Common.{◌≡◌, ℕ, ◌+◌, ◌<◌, ◌≤◌, Bool, true, false, not, T, ◌≢◌, ◌↔◌, List, Option, None, Some, MatchOption, length, get_or, set, arith, length-set, get_or-set_other, get_or-set_same, below_more}
+use Rattle.model.specs.Runs.{Run, Mate, First}
+use Rattle.model.proofs.Cases.{cases, less_or}
+use Rattle.conformance.specs.Groups.{Alike, NextOrLast, GroupPlace, no_place}
+use Rattle.conformance.specs.declared.group_table.Place.{Place}
 
--- of the copies above `low` and below j none is like q
-abbrev pub NoneAlike : Run → ℕ → ℕ → ℕ → Type 0
-NoneAlike r q low j = (i : ℕ) → i < j → low < i → ¬ (Alike r q i)
+-- the lowest copy above q that is like it is the next of its group
+pub next_or_last : (r : Run) (q n : ℕ) (o : Option ℕ) → n ≡ r.c
+    → MatchOption o ((k : ℕ) → q + 1 ≤ k → k < n → ¬ (Alike r q k)) (λ i. (q + 1 ≤ i) × (i < n) × Alike r q i × ((k : ℕ) → q + 1 ≤ k → k < i → ¬ (Alike r q k)))
+    → NextOrLast r q o
+next_or_last r q n None e h = λ j m. cases (less_or q j) (λ l. absurd (h j (omega arith) (omega (arith, m.exists)) (m.one_parent, m.one_block))) (λ x. x)
+next_or_last r q n (Some i) e h = record {
+  mate = record { exists = omega (arith, h.1); not_zero = omega (arith, h.0); one_parent = h.2.0; one_block = h.2.1 };
+  later = omega (arith, h.0);
+  none_between = λ j m l. cases (less_or j i) (λ b. absurd (h.3 j (omega arith) b (m.one_parent, m.one_block))) (λ x. x);
+}
 
--- two lists of n places tell the place of each copy but 0 and below q
-pub record Placing (n : ℕ) (r : Run) (next : List ℕ) (first : List Bool) (q : ℕ) : Type 0 where
-  pub next_long : length next ≡ n
-  pub first_long : length first ≡ n
-  pub placed : (i : ℕ) → i < q → 0 < i → GroupPlace r i (get_or next i 0) (get_or first i false)
+-- a copy with none below it that is like it is the first of its group
+pub first_where : (r : Run) (q : ℕ) (b : Bool) → q < r.c → T b ↔ ((k : ℕ) × (1 ≤ k) × (k < q) × Alike r q k) → T (not b) ↔ First r q
+first_where r q true l h = (
+  λ t. absurd t,
+  λ f.
+      let k = h.0 tt in
+      let m : Mate r q k.0 = record { exists = omega (arith, k.2); not_zero = omega (arith, k.1); one_parent = k.3.0; one_block = k.3.1 } in
+      absurd (omega (arith, k.2, f k.0 m)),
+)
+first_where r q false l h = (
+  λ _ j m. cases (less_or j q) (λ b. absurd (h.1 (j, omega (arith, m.not_zero), b, (m.one_parent, m.one_block)))) (λ x. x),
+  λ _. tt,
+)
 
-module _ {n : ℕ} {r : Run} {next : List ℕ} {first : List Bool} where
-  pub placing_more : (q k : ℕ) (b : Bool) → Placing n r next first q → q < n → NextOrLast r q k → T b ↔ First r q → Placing n r (set next q k) (set first q b) (q + 1)
-  placing_more q k b p h e f = record {
-    next_long = simp length-set p.next_long;
-    first_long = simp length-set p.first_long;
-    placed = below_more (λ (i : ℕ). 0 < i → GroupPlace r i (get_or (set next q k) i 0) (get_or (set first q b) i false)) q
-        (λ i l z.
-        let other : i ≢ q = omega arith in
-        rw (get_or-set_other next q i k 0 other, get_or-set_other first q i b false other) (p.placed i l z))
-        (λ z.
-        let a : q < length next = omega (arith, p.next_long) in
-        let c : q < length first = omega (arith, p.first_long) in
-        rw (get_or-set_same next q k 0 a, get_or-set_same first q b false c) (record { last_told = e.0; next_told = e.1; first_told = f }));
-  }
+-- a list of n places tells the place of each copy but 0 and below q
+pub record Placing (n : ℕ) (r : Run) (places : List Place) (q : ℕ) : Type 0 where
+  pub long : length places ≡ n
+  pub placed : (i : ℕ) → i < q → 0 < i → GroupPlace r i (get_or places i no_place)
+
+pub placing_more : {n : ℕ} {r : Run} {places : List Place} (q : ℕ) (place : Place) → Placing n r places q → q < n → GroupPlace r q place → Placing n r (set places q place) (q + 1)
+placing_more {n} {r} {places} q place p h g = record {
+  long = simp length-set p.long;
+  placed = below_more (λ (i : ℕ). 0 < i → GroupPlace r i (get_or (set places q place) i no_place)) q
+      (λ i l z. let other : i ≢ q = omega arith in rw (get_or-set_other places q i place no_place other) (p.placed i l z))
+      (λ z. let a : q < length places = omega (arith, p.long) in rw (get_or-set_same places q place no_place a) g);
+}

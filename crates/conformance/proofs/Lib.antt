@@ -6,9 +6,9 @@ pub mod RunRanges
 pub mod Walking
 pub mod Climbing
 pub mod Assembly
-pub mod SameEdges
 pub mod Marking
 pub mod Decided
 pub mod Deriving
-pub mod Places
+pub mod Kept
+pub mod Ranges
 pub mod Checked

@@ -7,9 +7,6 @@ use Rattle.graphs.specs.Rows.{vertices}
 use Rattle.conformance.specs.Links.{HasEdges, TurnsBelow, LinkedBelow}
 
 module _ (s : Spec) (g : Graph) where
-  pub linked_none : HasEdges s g → LinkedBelow s 1 g
-  linked_none h x y = ((λ j. inl ((h x y).0 j)), λ e. cases e (h x y).1 (λ t. absurd (omega (arith, t.1, t.2))))
-
   wider : (k : ℕ) {x y : ℕ} → TurnsBelow s k x y → TurnsBelow s (k + 1) x y
   wider k t = (t.0, t.1, omega (arith, t.2), t.3, t.4, t.5)
 

@@ -11,10 +11,6 @@ use Rattle.rules.proofs.PartsOf.{few_of}
 pub vertices_few : (s : Specification) → (spec_of s).n ≤ vertices
 vertices_few s = few_of s.vertices.items (kept s.vertices) s.vertices.len 64 refl s.vertices.fits
 
--- nor more blocks than a section of them may have
-pub blocks_few : (s : Specification) → (spec_of s).b ≤ nest_kind.ceiling
-blocks_few s = few_of s.nests.items (kept s.nests) s.nests.len nest_kind.ceiling refl s.nests.fits
-
 -- so sources and sinks have a place in a row
 pub ends_few : (s : Specification) (k : ℕ) → k < (spec_of s).b → ((spec_of s).source k < vertices) × ((spec_of s).sink k < vertices)
 ends_few s k h =

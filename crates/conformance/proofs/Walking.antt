@@ -1,7 +1,6 @@
 -- Two copies go up until they meet.
 use Rattle.std.proofs.Common.{◌≡◌, ℕ, ◌+◌, ◌<◌, ◌⊎◌, sym, refl, inl, inr, arith}
 use Rattle.model.specs.Forests.{Chain, stop, up, Falls}
-use Rattle.model.specs.Meetings.{Meets}
 use Rattle.model.proofs.Cases.{cases}
 use Rattle.model.proofs.Chains.{chain_eq, chain_join}
 use Rattle.model.proofs.Meetings.{common_up}
@@ -30,16 +29,6 @@ module _ {p : ℕ → ℕ} where
   come_to : {i j x y a b : ℕ} → Walked p i j x y a b → Chain p i x
   come_to W = cases W.at_left (λ e. chain_eq e.0) (λ e. chain_join W.come_left (up (chain_eq e.1)))
 
-  -- at one copy the two meet
-  pub walked_meets : {i j x y a b : ℕ} → Walked p i j x y a b → x ≡ y → Meets p i j x a b
-  walked_meets {i} {j} {x} {y} {a} {b} W e = record {
-    from_left = W.come_left;
-    from_right = W.come_right;
-    left_end = W.at_left;
-    right_end = rw e W.at_right;
-    lowest = λ k c d. (W.ahead k c d).0;
-  }
-
 module _ {p : ℕ → ℕ} (f : Falls p) where
   -- the higher of the two goes up
 
@@ -54,11 +43,3 @@ module _ {p : ℕ → ℕ} (f : Falls p) where
 
   pub walked_right : {i j x y a b y' : ℕ} → Walked p i j x y a b → x < y → y' ≡ p y → Walked p i j x y' a y
   walked_right W l e = walked_flip (walked_left (walked_flip W) l e)
-
-  -- and with it the sum of the two numbers falls
-
-  pub less_left : {x y x' : ℕ} → y < x → x' ≡ p x → x' + y < x + y
-  less_left {x} {y} l e = omega (arith, f.falls x (omega arith))
-
-  pub less_right : {x y y' : ℕ} → x < y → y' ≡ p y → x + y' < x + y
-  less_right {x} {y} l e = omega (arith, f.falls y (omega arith))

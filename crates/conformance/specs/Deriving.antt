@@ -2,13 +2,10 @@
 use Rattle.std.specs.Prelude.{◌≡◌, ℕ, ◌<◌, ◌≢◌, ◌↔◌}
 use Rattle.model.specs.Forests.{Chain}
 use Rattle.model.specs.Meetings.{Meets}
-use Rattle.model.specs.Runs.{Run, Placed, Next, First as IsFirst, Last as IsLast}
-use Rattle.model.specs.Specifications.{Spec, Edge}
-use Rattle.graphs.specs.Graphs.{Graph, Joins}
-use Rattle.conformance.specs.Groups.{Grouped}
+use Rattle.model.specs.Runs.{Run, Next, First as IsFirst, Last as IsLast}
+use Rattle.model.specs.Specifications.{Spec}
 use Rattle.conformance.specs.declared.derived.End.{End}
 use Rattle.conformance.specs.declared.derived.End.TheVariants.{First, Last}
-use Rattle.conformance.specs.declared.group_table.Groups.{Groups}
 use Rattle.conformance.specs.declared.meetings.Meeting.{Meeting}
 
 -- copy q stands at this end of its group
@@ -30,12 +27,6 @@ pub record Turns (s : Spec) (r : Run) (u w a b : ℕ) : Type 0 where
   pub at_sink : r.origin u ≡ s.sink (r.block a)
   pub at_source : r.origin w ≡ s.source (r.block a)
   pub to_next : Next r a b
-
--- the run's copies and steps are as the specification wants them, the graph has the specification's edges, and the table the run's groups
-pub record Ready (s : Spec) (r : Run) (edges : Graph) (groups : Groups) : Type 0 where
-  pub placed : Placed s r
-  pub drawn : (x y : ℕ) → Joins edges x y ↔ Edge s x y
-  pub grouped : Grouped r groups
 
 -- u and w are steps, and here the chains of their contexts meet
 pub record StepsMeet (r : Run) (u w : ℕ) (meeting : Meeting) : Type 0 where

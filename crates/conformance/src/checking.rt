@@ -7,13 +7,28 @@ ghost use Rattle.conformance.specs.Faults.{conformance_fault};
 ghost use Rattle.conformance.specs.Nonconforming.{Nonconforming};
 ghost use Rattle.conformance.specs.Trials.{trial_run, trial_spec, Fitting};
 
+use crate::derivation::Derivation;
 use crate::faults::ConformanceFault;
 use crate::trial::Trial;
 use formats::run_file::RunFile;
 use graphs::grid::Grid;
 use nesting::copies::check_copies;
 use nesting::sealed::SealedSpecification;
-use rules::edge_graph::edge_graph;
+
+impl Derivation<'_> {
+    /// The checks of edges, in their order.
+    fn check_edges(&self) -> Result<(), ConformanceFault>
+        ensures { MatchResult result (λ _. Conforms (trial_spec self.now.trial) (trial_run self.now.trial)) (λ f. Nonconforming (trial_spec self.now.trial) self.now.trial.run.bytes.now (conformance_fault f)) }
+    {
+        if let Some(edge) = self.stray() {
+            return Err(ConformanceFault::NotDerived { edge });
+        }
+        if let Some(step) = self.unlisted() {
+            return Err(ConformanceFault::NotListed { step });
+        }
+        Ok(())
+    }
+}
 
 impl Trial<'_> {
     /// The checks of steps, in their order.
@@ -34,23 +49,6 @@ impl Trial<'_> {
         Ok(())
     }
 
-    /// The checks of edges, in their order.
-    fn check_edges(self) -> Result<(), ConformanceFault>
-        requires { Placed (trial_spec self) (trial_run self) }
-        ensures { MatchResult result (λ _. Conforms (trial_spec self.entry) (trial_run self.entry)) (λ f. Nonconforming (trial_spec self.entry) self.entry.run.bytes.now (conformance_fault f)) }
-    {
-        let edges = edge_graph(self.specification);
-        let groups = self.groups();
-        if let Some(edge) = self.stray(&edges, &groups) {
-            return Err(ConformanceFault::NotDerived { edge });
-        }
-        let links = self.links(edges);
-        if let Some(step) = self.unlisted(&edges, &links, &groups) {
-            return Err(ConformanceFault::NotListed { step });
-        }
-        Ok(())
-    }
-
     /// All checks of an opened run, in their order.
     fn check_all(self) -> Result<(), ConformanceFault>
         requires { Fitting self }
@@ -58,7 +56,7 @@ impl Trial<'_> {
     {
         check_copies(self.specification, self.run)?;
         self.check_steps()?;
-        self.check_edges()
+        Derivation::of(self).check_edges()
     }
 }
 

@@ -1,76 +1,58 @@
 ghost use Rattle.std.specs.Prelude.{ℕ, ◌<◌, T, ◌↔◌, length, MatchOption};
+ghost use Rattle.std.specs.Bool.{MatchBool};
 ghost use Rattle.model.specs.Runs.{Derived};
 ghost use Rattle.formats.specs.RunFiles.{run_edges_of};
 ghost use Rattle.formats.specs.Sections.{Lowest};
-ghost use Rattle.conformance.specs.Deriving.{Ready};
-ghost use Rattle.conformance.specs.Links.{Linked};
 ghost use Rattle.conformance.specs.Nonconforming.{AllDerived, DerivedAt, Stray, Unlisted};
 ghost use Rattle.conformance.specs.Trials.{trial_run, trial_spec};
 
-use crate::group_table::Groups;
-use crate::trial::Trial;
-use graphs::graph::Graph;
+use crate::derivation::Derivation;
 
-impl Trial<'_> {
-    /// Whether the listed edge at index `k` is derived.
-    fn derived_at(self, edges: &Graph, groups: &Groups, k: usize) -> bool
-        requires { (Ready (trial_spec self) (trial_run self) edges.now groups.now) × (k < length (run_edges_of self.run.bytes.now)) }
-        ensures { T result ↔ DerivedAt (trial_spec self.entry) (trial_run self.entry) (run_edges_of self.entry.run.bytes.now) k }
+impl Derivation<'_> {
+    /// Whether the listed edge at index `k` is not derived.
+    fn is_stray(&self, k: usize) -> bool
+        requires { k < length (run_edges_of self.now.trial.run.bytes.now) }
+        ensures { MatchBool result (¬ (DerivedAt (trial_spec self.now.trial) (trial_run self.now.trial) (run_edges_of self.now.trial.run.bytes.now) k)) (DerivedAt (trial_spec self.now.trial) (trial_run self.now.trial) (run_edges_of self.now.trial.run.bytes.now) k) }
     {
-        let edge = self.run.edge(k);
-        self.derived(edges, groups, edge.tail as usize, edge.head as usize)
+        let edge = self.trial.run.edge(k);
+        !self.derived(edge.tail as usize, edge.head as usize)
     }
 
     /// The lowest index of a listed edge that is not derived.
-    pub(crate) fn stray(self, edges: &Graph, groups: &Groups) -> Option<usize>
-        requires { Ready (trial_spec self) (trial_run self) edges.now groups.now }
-        ensures { MatchOption result (AllDerived (trial_spec self.entry) (trial_run self.entry) (run_edges_of self.entry.run.bytes.now)) (Lowest (Stray (trial_spec self.entry) (trial_run self.entry) (run_edges_of self.entry.run.bytes.now))) }
+    pub(crate) fn stray(&self) -> Option<usize>
+        ensures { MatchOption result (AllDerived (trial_spec self.now.trial) (trial_run self.now.trial) (run_edges_of self.now.trial.run.bytes.now)) (Lowest (Stray (trial_spec self.now.trial) (trial_run self.now.trial) (run_edges_of self.now.trial.run.bytes.now))) }
     {
-        for k in 0..self.run.edges() {
-            if !self.derived_at(edges, groups, k) {
-                return Some(k);
-            }
-        }
-        None
+        (0..self.trial.run.edges()).find(|&k| self.is_stray(k))
     }
 
-    /// Whether the edge from step `u` to step `w` is derived and not listed. Most pairs of origins have no link, which one bit tells.
-    fn left_out(self, edges: &Graph, links: &Graph, groups: &Groups, u: usize, w: usize) -> bool
-        requires { (Ready (trial_spec self) (trial_run self) edges.now groups.now) × ((Linked (trial_spec self) links.now) × ((u < (trial_run self).v) × (w < (trial_run self).v))) }
-        ensures { T result ↔ (Derived (trial_spec self.entry) (trial_run self.entry) u w × (¬ (T ((trial_run self.entry).listed u w)))) }
+    /// Whether a derived edge can lead from the origin of step `u` to that of step `w`. Most pairs of origins have no link, which one bit
+    /// tells.
+    fn has_link(&self, u: usize, w: usize) -> bool
+        ensures { Derived (trial_spec self.now.trial) (trial_run self.now.trial) u w → T result }
     {
-        if !links.has(self.origin(u), self.origin(w)) {
-            return false;
-        }
-        if !self.derived(edges, groups, u, w) {
-            return false;
-        }
-        !self.listed(u, w)
+        self.links.has(self.trial.origin(u), self.trial.origin(w))
+    }
+
+    /// Whether the edge from step `u` to step `w` is derived and not listed.
+    fn left_out(&self, u: usize, w: usize) -> bool
+        requires { (u < (trial_run self.now.trial).v) × (w < (trial_run self.now.trial).v) }
+        ensures { T result ↔ (Derived (trial_spec self.now.trial) (trial_run self.now.trial) u w × (¬ (T ((trial_run self.now.trial).listed u w)))) }
+    {
+        self.has_link(u, w) && self.derived(u, w) && !self.trial.listed(u, w)
     }
 
     /// Whether some derived edge from step `u` is not listed.
-    fn leaves_out(self, edges: &Graph, links: &Graph, groups: &Groups, u: usize) -> bool
-        requires { (Ready (trial_spec self) (trial_run self) edges.now groups.now) × ((Linked (trial_spec self) links.now) × (u < (trial_run self).v)) }
-        ensures { T result ↔ Unlisted (trial_spec self.entry) (trial_run self.entry) u }
+    fn leaves_out(&self, u: usize) -> bool
+        requires { u < (trial_run self.now.trial).v }
+        ensures { T result ↔ Unlisted (trial_spec self.now.trial) (trial_run self.now.trial) u }
     {
-        for w in 0..self.steps() {
-            if self.left_out(edges, links, groups, u, w) {
-                return true;
-            }
-        }
-        false
+        (0..self.trial.steps()).any(|w| self.left_out(u, w))
     }
 
     /// The lowest step from which a derived edge is not listed.
-    pub(crate) fn unlisted(self, edges: &Graph, links: &Graph, groups: &Groups) -> Option<usize>
-        requires { (Ready (trial_spec self) (trial_run self) edges.now groups.now) × (Linked (trial_spec self) links.now) }
-        ensures { MatchOption result ((u : ℕ) → ¬ (Unlisted (trial_spec self.entry) (trial_run self.entry) u)) (Lowest (Unlisted (trial_spec self.entry) (trial_run self.entry))) }
+    pub(crate) fn unlisted(&self) -> Option<usize>
+        ensures { MatchOption result ((u : ℕ) → ¬ (Unlisted (trial_spec self.now.trial) (trial_run self.now.trial) u)) (Lowest (Unlisted (trial_spec self.now.trial) (trial_run self.now.trial))) }
     {
-        for u in 0..self.steps() {
-            if self.leaves_out(edges, links, groups, u) {
-                return Some(u);
-            }
-        }
-        None
+        (0..self.trial.steps()).find(|&u| self.leaves_out(u))
     }
 }

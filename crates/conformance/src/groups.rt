@@ -1,31 +1,12 @@
-ghost use Rattle.std.specs.Prelude.{◌≡◌, ◌<◌, false, T, ◌↔◌, slice_index, slice_index_or};
+ghost use Rattle.std.specs.Prelude.{◌<◌, T, ◌↔◌};
 ghost use Rattle.model.specs.Runs.{First};
-ghost use Rattle.records.specs.Kinds.{copy_kind};
-ghost use Rattle.conformance.specs.Groups.{Alike, NextOrLast, Grouped};
+ghost use Rattle.conformance.specs.Groups.{Alike, NextOrLast, GroupPlace, Grouped};
 ghost use Rattle.conformance.specs.Trials.{trial_run};
 
-use crate::group_table::Groups;
+use crate::group_table::{Groups, Place};
 use crate::trial::Trial;
 use records::kinds::RunCopy;
 use records::record::Record;
-
-impl Groups {
-    /// The next copy of the group of copy `q`, or 0.
-    pub(crate) fn next(&self, q: usize) -> usize
-        requires { q < copy_kind.ceiling }
-        ensures { result ≡ slice_index self.now.next q }
-    {
-        self.next[q] as usize
-    }
-
-    /// Whether copy `q` is the first of its group.
-    pub(crate) fn is_first(&self, q: usize) -> bool
-        requires { q < copy_kind.ceiling }
-        ensures { result ≡ slice_index_or self.now.first q false }
-    {
-        self.first[q]
-    }
-}
 
 // The groups of a run, each copy compared with the others.
 impl Trial<'_> {
@@ -36,19 +17,12 @@ impl Trial<'_> {
         self.parent(j) == self.parent(i) && self.block(j) == self.block(i)
     }
 
-    /// The next copy of the group of copy `q`, or 0.
-    fn next_of(self, q: usize) -> usize
+    /// The next copy of the group of copy `q`, if there is one.
+    fn next_of(self, q: usize) -> Option<usize>
         requires { q < (trial_run self).c }
-        ensures told { NextOrLast (trial_run self.entry) q result }
-        ensures exists { result < (trial_run self.entry).c }
+        ensures { NextOrLast (trial_run self.entry) q result }
     {
-        let after = q + 1;
-        for j in after..self.copies() {
-            if self.alike(q, j) {
-                return j;
-            }
-        }
-        0
+        (q + 1..self.copies()).find(|&j| self.alike(q, j))
     }
 
     /// Whether copy `q` is the first of its group.
@@ -56,24 +30,32 @@ impl Trial<'_> {
         requires { q < (trial_run self).c }
         ensures { T result ↔ First (trial_run self.entry) q }
     {
-        for j in 1..q {
-            if self.alike(q, j) {
-                return false;
-            }
+        !(1..q).any(|j| self.alike(q, j))
+    }
+
+    /// The place of copy `q` in its group.
+    fn place_of(self, q: usize) -> Place
+        requires { q < (trial_run self).c }
+        ensures { GroupPlace (trial_run self.entry) q result }
+    {
+        Place {
+            next: self.next_of(q),
+            first: self.is_first_of(q),
         }
-        true
     }
 
     /// The place of each copy in its group.
     pub(crate) fn groups(self) -> Groups
         ensures { Grouped (trial_run self.entry) result }
     {
-        let mut next = [0u16; RunCopy::CEILING];
-        let mut first = [false; RunCopy::CEILING];
+        let none = Place {
+            next: None,
+            first: false,
+        };
+        let mut places = [none; RunCopy::CEILING];
         for q in 1..self.copies() {
-            next[q] = self.next_of(q) as u16;
-            first[q] = self.is_first_of(q);
+            places[q] = self.place_of(q);
         }
-        Groups { next, first }
+        Groups { places }
     }
 }

@@ -2,6 +2,7 @@
 #![tactic(auto)]
 
 pub mod checking;
+mod derivation;
 mod derived;
 mod edges;
 pub mod faults;

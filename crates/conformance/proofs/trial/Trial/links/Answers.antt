@@ -1,13 +1,10 @@
-use Rattle.std.proofs.Common.{◌≡◌, ◌+◌, ◌<◌, sym, subst, arith}
+use Rattle.std.proofs.Common.{◌+◌, ◌<◌, sym, subst, arith}
 use Rattle.conformance.specs.Links.{LinkedBelow}
 use Rattle.conformance.specs.Trials.{trial_spec}
-use Rattle.conformance.proofs.Linking.{linked_none, linked_skip, linked_turn}
+use Rattle.conformance.proofs.Linking.{linked_skip, linked_turn}
 use Rattle.conformance.proofs.Tabled.{ends_few}
 use Rattle.conformance.proofs.trial.Trial.links.Goals as goal
 use Rattle.conformance.proofs.trial.Trial.links.Goals.{then-is_loop, else-is_loop}
-
-pub loop-k-init : goal.loop-k-init
-loop-k-init c = linked_none (trial_spec c.args.self) c.args.edges c.requires
 
 pub loop-k-preserved : goal.loop-k-preserved
 loop-k-preserved c =
@@ -21,9 +18,3 @@ loop-k-preserved c =
           (linked_turn s c.loop-k.links w.add.new.self k (omega arith) (w.if-is_loop.ensures.0 tt) w.sink.ensures w.source.ensures ends.1 ends.0 w.add.ensures c.loop-k.invariant)
       | else-is_loop w ↦ subst (LinkedBelow s (k + 1)) (sym w.links-is) (linked_skip s c.loop-k.links k w.if-is_loop.ensures.1 c.loop-k.invariant)
     ]
-
-pub returns : goal.returns
-returns c =
-    let s = trial_spec c.args.self in
-    let e : c.loop-k.k ≡ s.b = omega (arith, c.args.self.specification.now.sized.1, c.blocks-k-end.ensures, c.loop-k.auto.k-end) in
-    subst (λ k. LinkedBelow s k c.loop-k.links) e c.loop-k.invariant
