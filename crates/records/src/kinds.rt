@@ -6,7 +6,7 @@ ghost use Rattle.std.proofs.Common.{rules};
 use crate::record::{Bounds, Record, Span};
 
 /// An edge of a specification.
-#[derive(Clone, Copy)]
+#[derive(Clone, Copy, PartialEq, Eq, PartialOrd, Ord)]
 pub struct SpecEdge {
     pub tail: u16,
     pub head: u16,
@@ -51,7 +51,7 @@ impl Record for SpecEdge {
 }
 
 /// A vertex: its home block and its tool code.
-#[derive(Clone, Copy)]
+#[derive(Clone, Copy, PartialEq, Eq, PartialOrd, Ord)]
 pub struct Vertex {
     pub home: u16,
     pub tool: u16,
@@ -96,7 +96,7 @@ impl Record for Vertex {
 }
 
 /// A block: its parent, and its kind as the file numbers it (0 the whole, 1 a fork, 2 a loop).
-#[derive(Clone, Copy)]
+#[derive(Clone, Copy, PartialEq, Eq, PartialOrd, Ord)]
 pub struct Nest {
     pub parent: u16,
     pub kind: u16,
@@ -141,7 +141,7 @@ impl Record for Nest {
 }
 
 /// What a block is.
-#[derive(Clone, Copy)]
+#[derive(Clone, Copy, PartialEq, Eq)]
 pub enum BlockKind {
     Whole,
     Fork,
@@ -163,7 +163,7 @@ impl Nest {
 }
 
 /// A block's source and sink.
-#[derive(Clone, Copy)]
+#[derive(Clone, Copy, PartialEq, Eq, PartialOrd, Ord)]
 pub struct Ends {
     pub source: u16,
     pub sink: u16,
@@ -208,7 +208,7 @@ impl Record for Ends {
 }
 
 /// A copy, one execution of a block: its parent copy and its block.
-#[derive(Clone, Copy)]
+#[derive(Clone, Copy, PartialEq, Eq, PartialOrd, Ord)]
 pub struct RunCopy {
     pub parent: u16,
     pub block: u16,
@@ -253,7 +253,7 @@ impl Record for RunCopy {
 }
 
 /// A step of a run: the copy that it belongs to and the vertex that it executes.
-#[derive(Clone, Copy)]
+#[derive(Clone, Copy, PartialEq, Eq, PartialOrd, Ord)]
 pub struct Step {
     pub context: u16,
     pub origin: u16,
@@ -298,7 +298,7 @@ impl Record for Step {
 }
 
 /// An edge of a run.
-#[derive(Clone, Copy)]
+#[derive(Clone, Copy, PartialEq, Eq, PartialOrd, Ord)]
 pub struct RunEdge {
     pub tail: u16,
     pub head: u16,
