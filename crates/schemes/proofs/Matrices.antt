@@ -1,11 +1,7 @@
 -- What a matrix answers is the reach that it means.
-use Rattle.std.proofs.Common.{◌≡◌, ℕ, Bool, ◌||◌, T, eqb, ◌↔◌, List, length, ap, ◌∙◌, subst}
+use Rattle.std.proofs.Common.{◌≡◌, ℕ, Bool, ◌||◌, T, eqb, ◌↔◌}
 use Rattle.model.specs.Paths.{Path*, Path⁺}
 use Rattle.model.specs.Specifications.{Spec, Edge}
-use Rattle.records.specs.Tables.{kept}
-use Rattle.records.specs.declared.kinds.Vertex.{Vertex}
-use Rattle.formats.specs.Of.{spec_of}
-use Rattle.formats.specs.declared.specification.Specification.{Specification}
 use Rattle.graphs.specs.declared.graph.Graph.{Graph}
 use Rattle.graphs.specs.Graphs.{Joins}
 use Rattle.graphs.specs.Tests.{edge_test}
@@ -28,12 +24,3 @@ answer_else g x y b d law =
       (λ t. r.0 ((edge_test_law g x y).1 (law.0 t))),
       λ t. law.1 ((edge_test_law g x y).0 (r.1 t)),
     )
-
--- a matrix that has learnt: what it holds, and the specification that it was given under another name
-module _ (spec spec' : Specification) (same : spec' ≡ spec) (edges closed : Graph) where
-  pub learnt_count : (vs : List Vertex) → vs ≡ kept spec'.vertices → length vs ≡ (spec_of spec).n
-  learnt_count vs e = ap length e ∙ ap (λ (s : Specification). length (kept s.vertices)) same
-
-  pub learnt_reach : ((x y : ℕ) → Joins edges x y ↔ Edge (spec_of spec') x y) → ((x y : ℕ) → Joins closed x y ↔ Path⁺ (Joins edges) x y)
-      → (x y : ℕ) → T (eqb x y || edge_test closed x y) ↔ Path* (Edge (spec_of spec)) x y
-  learnt_reach e = closed_reach (spec_of spec) edges closed (subst (λ (s : Specification). (x y : ℕ) → Joins edges x y ↔ Edge (spec_of s) x y) same e)

@@ -1,12 +1,10 @@
-use Rattle.schemes.proofs.Matrices.{learnt_count, learnt_reach}
+use Rattle.std.proofs.Common.{rules}
+use Rattle.formats.specs.Of.{spec_of}
+use Rattle.schemes.proofs.Matrices.{closed_reach}
 use Rattle.schemes.proofs.matrix.ClosedGraphSkeleton.learn.Goals as goal
 
 pub returns : goal.returns
 returns c =
-    let spec = c.args.specification.now.specification in
-    let edges = c.edge_graph-edges.result in
-    let closed = c.close.new.self in
-    λ _. record {
-      counts = learnt_count spec c.specification-2.result.now c.specification-2.ensures edges closed c.vertices.result.now c.vertices.ensures;
-      reaches = λ x y _ _. learnt_reach spec c.specification.result.now c.specification.ensures edges closed c.edge_graph-edges.ensures c.close.ensures x y;
-    }
+    let joined = rw c.specification.ensures at c.edge_graph-edges.ensures in
+    let reaches = closed_reach (spec_of c.args.specification.now.specification) c.edge_graph-edges.result c.close.new.self joined c.close.ensures in
+    λ _. record { counts = search rules; reaches = λ x y _ _. reaches x y }

@@ -1,5 +1,6 @@
-use Rattle.schemes.proofs.Walkers.{kept_learnt}
+use Rattle.std.proofs.Common.{rules}
+use Rattle.schemes.proofs.Walkers.{kept_reach}
 use Rattle.schemes.proofs.walker.KeptSpecificationSkeleton.learn.Goals as goal
 
 pub returns : goal.returns
-returns c = kept_learnt c.args.specification.now.specification c.specification-learnt.result.now c.specification-learnt.ensures
+returns c = λ _. record { counts = search rules; reaches = λ x y _ _. rw c.specification-learnt.ensures (kept_reach c.args.specification.now.specification x y) }
