@@ -1,5 +1,5 @@
--- What a matrix answers is the reach that it means.
-use Rattle.std.proofs.Common.{◌≡◌, ℕ, Bool, ◌||◌, T, eqb, ◌↔◌}
+-- What a matrix means is the reach of the specification whose graph it closed.
+use Rattle.std.proofs.Common.{ℕ, ◌||◌, T, eqb, ◌↔◌}
 use Rattle.model.specs.Paths.{Path*, Path⁺}
 use Rattle.model.specs.Specifications.{Spec, Edge}
 use Rattle.graphs.specs.declared.graph.Graph.{Graph}
@@ -7,7 +7,7 @@ use Rattle.graphs.specs.Graphs.{Joins}
 use Rattle.graphs.specs.Tests.{edge_test}
 use Rattle.graphs.proofs.Closing.{path⁺_map}
 use Rattle.graphs.proofs.Tests.{edge_test_law}
-use Rattle.schemes.proofs.Reaching.{reach_by, reach_else}
+use Rattle.schemes.proofs.Reaching.{reach_by}
 
 -- the closed graph of the edges has the reach of the specification
 pub closed_reach : (s : Spec) (edges closed : Graph) → ((x y : ℕ) → Joins edges x y ↔ Edge s x y)
@@ -16,11 +16,3 @@ closed_reach s edges closed e c x y = reach_by (Edge s) x y (edge_test closed x 
   (λ t. path⁺_map (λ a b. (e a b).0) ((c x y).0 ((edge_test_law closed x y).0 t))),
   λ p. (edge_test_law closed x y).1 ((c x y).1 (path⁺_map (λ a b. (e a b).1) p)),
 )
-
--- the answer on two different vertices
-pub answer_else : (g : Graph) (x y : ℕ) (b : Bool) → (x ≡ y → ⊥) → (T b ↔ Joins g x y) → T b ↔ T (eqb x y || edge_test g x y)
-answer_else g x y b d law =
-    let r = reach_else x y (edge_test g x y) d in (
-      (λ t. r.0 ((edge_test_law g x y).1 (law.0 t))),
-      λ t. law.1 ((edge_test_law g x y).0 (r.1 t)),
-    )

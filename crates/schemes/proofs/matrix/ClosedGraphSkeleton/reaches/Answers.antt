@@ -1,5 +1,7 @@
-use Rattle.schemes.proofs.Matrices.{answer_else}
+use Rattle.std.proofs.Common.{arith}
+use Rattle.std.proofs.lemmas.Grind.{common_steps}
+use Rattle.graphs.proofs.Tests.{edge_test_law}
 use Rattle.schemes.proofs.matrix.ClosedGraphSkeleton.reaches.Goals as goal
 
 pub returns-else-x-y : goal.returns-else-x-y
-returns-else-x-y c = answer_else c.args.self.now.closed c.args.x c.args.y c.has.result c.if-x-y.false c.has.ensures
+returns-else-x-y c = let test = edge_test_law c.args.self.now.closed c.args.x c.args.y in grind (arith, common_steps)
