@@ -10,11 +10,8 @@ pub fn push_number(file: &mut Vec<u8>, number: u16) -> anyhow::Result<()> {
 
 /// A number, or the numbers from one to another.
 fn push_range(file: &mut Vec<u8>, word: &str) -> anyhow::Result<()> {
-    let (first, last) = match word.split_once('-') {
-        Some((first, last)) => (first.parse::<u16>()?, last.parse::<u16>()?),
-        None => (word.parse::<u16>()?, word.parse::<u16>()?),
-    };
-    for number in first..=last {
+    let (first, last) = word.split_once('-').unwrap_or((word, word));
+    for number in first.parse::<u16>()?..=last.parse::<u16>()? {
         push_number(file, number)?;
     }
     Ok(())

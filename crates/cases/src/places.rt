@@ -3,7 +3,6 @@
 use formats::specification::Specification;
 use nesting::sealed::SealedSpecification;
 use nesting::sealing::read_and_seal;
-use records::record::Record;
 use rules::faults::NestingFault;
 
 #[derive(Drop)]
@@ -19,25 +18,12 @@ pub struct Before {
     sealed: Specification,
 }
 
-fn same_records<R: Record>(a: &[R], b: &[R]) -> bool {
-    if a.len() != b.len() {
-        return false;
-    }
-    for (x, y) in a.iter().zip(b) {
-        let (x1, x2) = x.numbers();
-        let (y1, y2) = y.numbers();
-        if x1 != y1 || x2 != y2 {
-            return false;
-        }
-    }
-    true
-}
-
+/// Whether two specifications have the same records.
 fn same(a: &Specification, b: &Specification) -> bool {
-    same_records(a.edges(), b.edges())
-        && same_records(a.vertices(), b.vertices())
-        && same_records(a.nests(), b.nests())
-        && same_records(a.ends(), b.ends())
+    a.edges() == b.edges()
+        && a.vertices() == b.vertices()
+        && a.nests() == b.nests()
+        && a.ends() == b.ends()
 }
 
 impl Places {
@@ -68,13 +54,11 @@ impl Places {
     /// Whether the places hold what they should: both the new specification, or after a refusal what they held,
     /// but for the first after a refusal of sealing, which holds what was read.
     pub fn as_said(&self, before: &Before, answer: Result<(), NestingFault>) -> bool {
+        let sealed_kept = same(&before.sealed, self.sealed.specification());
         match answer {
             Ok(()) => same(&self.read, self.sealed.specification()),
-            Err(refusal) => {
-                let unread = refusal.fault().layer == 1;
-                same(&before.sealed, self.sealed.specification())
-                    && (!unread || same(&before.read, &self.read))
-            }
+            Err(NestingFault::Reading(_)) => sealed_kept && same(&before.read, &self.read),
+            Err(_) => sealed_kept,
         }
     }
 }

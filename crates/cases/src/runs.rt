@@ -3,34 +3,19 @@
 use crate::file::push_number;
 use conformance::faults::ConformanceFault;
 use formats::run_file::RunFile;
+use rules::faults::NestingFault;
 use std::alloc::Global;
 
-fn push_copies(file: &mut Vec<u8>, run: RunFile) -> anyhow::Result<()> {
-    for i in 0..run.copies() {
-        push_number(file, run.copy(i).parent)?;
-    }
-    for i in 0..run.copies() {
-        push_number(file, run.copy(i).block)?;
-    }
-    Ok(())
-}
-
-fn push_steps(file: &mut Vec<u8>, run: RunFile) -> anyhow::Result<()> {
-    for u in 0..run.steps() {
-        push_number(file, run.step(u).context)?;
-    }
-    for u in 0..run.steps() {
-        push_number(file, run.step(u).origin)?;
-    }
-    Ok(())
-}
-
-fn push_edges(file: &mut Vec<u8>, run: RunFile) -> anyhow::Result<()> {
-    for k in 0..run.edges() {
-        push_number(file, run.edge(k).tail)?;
-    }
-    for k in 0..run.edges() {
-        push_number(file, run.edge(k).head)?;
+/// One number of each of `count` records.
+fn push_numbers<F: Fn(usize) -> u16>(
+    file: &mut Vec<u8>,
+    count: usize,
+    number: F,
+) -> anyhow::Result<()>
+    requires { F.IsAlwaysCallable number }
+{
+    for i in 0..count {
+        push_number(file, number(i))?;
     }
     Ok(())
 }
@@ -41,9 +26,12 @@ fn stated(heap: Global, run: RunFile) -> anyhow::Result<Vec<u8>> {
     for size in [run.copies(), run.steps(), run.edges()] {
         push_number(&mut file, u16::try_from(size)?)?;
     }
-    push_copies(&mut file, run)?;
-    push_steps(&mut file, run)?;
-    push_edges(&mut file, run)?;
+    push_numbers(&mut file, run.copies(), |i| run.copy(i).parent)?;
+    push_numbers(&mut file, run.copies(), |i| run.copy(i).block)?;
+    push_numbers(&mut file, run.steps(), |u| run.step(u).context)?;
+    push_numbers(&mut file, run.steps(), |u| run.step(u).origin)?;
+    push_numbers(&mut file, run.edges(), |k| run.edge(k).tail)?;
+    push_numbers(&mut file, run.edges(), |k| run.edge(k).head)?;
     Ok(file)
 }
 
@@ -56,12 +44,8 @@ pub fn as_said(
     answer: Result<(), ConformanceFault>,
 ) -> anyhow::Result<bool> {
     let found = stated(heap, place)?;
-    let unread = match answer {
-        Ok(()) => false,
-        Err(refusal) => refusal.fault().layer == 1,
-    };
-    if unread {
-        Ok(found.as_slice() == stated(heap, RunFile::new())?.as_slice())
+    if let Err(ConformanceFault::Nesting(NestingFault::Reading(_))) = answer {
+        Ok(found == stated(heap, RunFile::new())?)
     } else {
         Ok(found.as_slice() == file)
     }

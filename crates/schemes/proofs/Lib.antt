@@ -3,5 +3,4 @@ pub mod Matrices
 pub mod Leading
 pub mod Walks
 pub mod Walkers
-pub mod Decided
 pub mod Counting

@@ -1,5 +1,5 @@
 -- A path of zero or more edges is none, or one of one or more.
-use Rattle.std.proofs.Common.{◌≡◌, ℕ, Bool, ◌||◌, T, eqb, ◌↔◌, subst, inl, inr, eqb→eq}
+use Rattle.std.proofs.Common.{ℕ, Bool, ◌||◌, T, eqb, ◌↔◌, subst, inl, inr, eqb→eq}
 use Rattle.model.specs.Paths.{Path*, Path⁺, here, step}
 use Rattle.model.proofs.Paths.{path_last}
 use Rattle.model.proofs.Tests.{eq→eqb, or_so, or_thus}
@@ -12,11 +12,4 @@ reach_by R x y t law = (
     | inr f ↦ let w = law.0 f in step w.1 w.2
   ]),
   λ p. or_thus (eqb x y) t (elim (path_last p) [ inl e ↦ inl (eq→eqb x y e) | inr w ↦ inr (law.1 w) ]),
-)
-
--- of two different vertices the test alone says it
-pub reach_else : (x y : ℕ) (t : Bool) → (x ≡ y → ⊥) → T t ↔ T (eqb x y || t)
-reach_else x y t d = (
-  (λ h. or_thus (eqb x y) t (inr h)),
-  λ h. elim (or_so (eqb x y) t h) [ inl e ↦ absurd (d (eqb→eq x y e)) | inr f ↦ f ],
 )

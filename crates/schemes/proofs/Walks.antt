@@ -1,5 +1,5 @@
 -- Passes over the edges, and the walk that they make.
-use Rattle.std.proofs.Common.{◌≡◌, ℕ, ◌+◌, ◌<◌, Bool, true, false, not, T, ◌⊎◌, ◌↔◌, List, length, sym, refl, subst, inl, inr, arith, T_not, below_more}
+use Rattle.std.proofs.Common.{◌≡◌, ℕ, ◌+◌, ◌<◌, Bool, true, false, not, T, ◌⊎◌, ◌↔◌, List, length, sym, refl, subst, inl, inr, T_not, below_more}
 use lib.Dec.{not_T}
 use Rattle.model.specs.Paths.{Path*, here, step}
 use Rattle.model.proofs.Counts.{count, count_is, count_lt}
@@ -12,10 +12,6 @@ use Rattle.graphs.proofs.Tests.{row_test_law}
 use Rattle.rules.specs.Parts.{tail_at, head_at}
 use Rattle.rules.proofs.Ranges.{listed_at, at_listed}
 use Rattle.schemes.specs.Walks.{Listed, Passed}
-
-pub pass_none : (es : List SpecEdge) (seen : Row) → Passed es seen seen false 0
-pass_none es seen =
-    record { grows = λ k h. h; sound = λ x s. s; one_new = λ t. elim t [ ]; none_new = λ f k h. h; closed = λ f j h. absurd (omega (arith, h)) }
 
 module _ (es : List SpecEdge) (before after : Row) (marked : Bool) (i : ℕ) (lt : i < length es) (p : Passed es before after marked i) where
   -- the head of edge i is marked anew
@@ -44,11 +40,6 @@ module _ (es : List SpecEdge) (before after : Row) (marked : Bool) (i : ℕ) (lt
         closed = λ n. below_more (λ j. Holds before (tail_at es j) → Holds before (head_at es j)) i (p.closed n)
             (λ b. p.none_new n (head_at es i) (f (p.grows (tail_at es i) b)));
       }
-
--- the same marks under other names
-pub passed_as : (es : List SpecEdge) (before after after' : Row) (marked marked' : Bool) (i : ℕ) → after' ≡ after → marked' ≡ marked → Passed es before after marked i → Passed es before after' marked' i
-passed_as es before after after' marked marked' i e d p =
-    subst (λ (r : Row). Passed es before r marked' i) (sym e) (subst (λ (b : Bool). Passed es before after b i) (sym d) p)
 
 -- how many vertices are not marked
 unfoldable pub unmarked : Row → ℕ

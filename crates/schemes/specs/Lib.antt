@@ -1,5 +1,6 @@
 pub mod Meanings
 pub mod Faults
+pub mod Counted
 pub mod Matrices
 pub mod Walks
 pub mod Walkers

@@ -10,6 +10,10 @@ pub record Meaning : Type 0 where
   pub reach : ℕ → ℕ → Bool
   pub tally : ℕ
 
+-- a count and a reach, with a tally beside them
+abbrev pub tallied : ℕ → (ℕ → ℕ → Bool) → ℕ → Meaning
+tallied count reach tally = record { count = count; reach = reach; tally = tally }
+
 -- the reach is that of the specification: x reaches y where zero or more edges lead from x to y
 pub record Reaches (m : Meaning) (s : Spec) : Type 0 where
   pub counts : m.count ≡ s.n

@@ -17,14 +17,29 @@ pub enum SchemeFault {
     NoVertex { which: Which },
 }
 
-impl Which {
-    /// 1 for the first, 2 for the second.
-    pub fn place(self) -> usize
-        ensures { result ≡ which_place self }
-    {
-        match self {
+/// 1 for the first, 2 for the second.
+impl From<Which> for usize {
+    ghost from_gives = { λ w r. r ≡ which_place w };
+
+    fn from(which: Which) -> Self {
+        match which {
             Which::First => 1,
             Which::Second => 2,
+        }
+    }
+}
+
+/// Layer, number and place.
+impl From<SchemeFault> for Fault {
+    ghost from_gives = { λ f r. r ≡ scheme_fault f };
+
+    fn from(fault: SchemeFault) -> Self {
+        match fault {
+            SchemeFault::NoVertex { which } => Fault {
+                layer: 4,
+                number: 18,
+                place: which.into(),
+            },
         }
     }
 }
@@ -34,12 +49,6 @@ impl SchemeFault {
     pub fn fault(self) -> Fault
         ensures { result ≡ scheme_fault self }
     {
-        match self {
-            SchemeFault::NoVertex { which } => Fault {
-                layer: 4,
-                number: 18,
-                place: which.place(),
-            },
-        }
+        Fault::from(self)
     }
 }

@@ -2,9 +2,11 @@
 #![tactic(auto)]
 
 mod bounds;
+pub mod counted;
 pub mod faults;
 pub mod laws;
 pub mod matrix;
 pub mod scheme;
+mod skeleton;
 mod walk;
 pub mod walker;

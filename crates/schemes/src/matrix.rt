@@ -1,38 +1,30 @@
-ghost use Rattle.std.specs.Prelude.{T, ◌↔◌};
-ghost use Rattle.schemes.specs.Matrices.{matrix_meaning};
+ghost use Rattle.schemes.specs.Matrices.{closed_test};
 
-use crate::bounds::check_vertices;
-use crate::faults::SchemeFault;
-use crate::scheme::Scheme;
+use crate::counted::Counted;
+use crate::skeleton::Skeleton;
 use graphs::graph::Graph;
 use nesting::sealed::SealedSpecification;
 use rules::edge_graph::edge_graph;
 
 /// A scheme that closes the graph of a specification when it learns it, and answers by one bit of the closed graph.
+pub type Matrix = Counted<ClosedGraph>;
+
+/// The closed graph of a specification, and how many vertices it has.
 #[derive(Drop)]
-pub struct Matrix {
+pub struct ClosedGraph {
     closed: Graph,
     vertices: usize,
-    tally: u32,
 }
 
-impl Matrix {
-    /// Whether x is y, or an edge of the closed graph leads from x to y.
-    fn reaches(&self, x: usize, y: usize) -> bool
-        ensures { T result ↔ T ((matrix_meaning self.now).reach x y) }
-    {
-        x == y || self.closed.has(x, y)
-    }
-}
+impl Skeleton for ClosedGraph {
+    ghost count = { λ s. s.vertices };
 
-impl Scheme for Matrix {
-    ghost meaning = { matrix_meaning };
+    ghost reach = { closed_test };
 
     fn new() -> Self {
-        Matrix {
+        ClosedGraph {
             closed: Graph::new(),
             vertices: 1,
-            tally: 0,
         }
     }
 
@@ -44,14 +36,12 @@ impl Scheme for Matrix {
         self.vertices = specification.specification().vertices().len();
     }
 
-    fn question(&mut self, x: usize, y: usize) -> Result<bool, SchemeFault> {
-        check_vertices(self.vertices, x, y)?;
-        let answer = self.reaches(x, y);
-        self.tally = self.tally.wrapping_add(1);
-        Ok(answer)
+    fn vertices(&self) -> usize {
+        self.vertices
     }
 
-    fn tally(&self) -> u32 {
-        self.tally
+    /// Whether x is y, or an edge of the closed graph leads from x to y.
+    fn reaches(&self, x: usize, y: usize) -> bool {
+        x == y || self.closed.has(x, y)
     }
 }

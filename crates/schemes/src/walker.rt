@@ -1,26 +1,28 @@
-ghost use Rattle.schemes.specs.Walkers.{walker_meaning};
+ghost use Rattle.schemes.specs.Walkers.{kept_count, kept_test};
 
-use crate::bounds::check_vertices;
-use crate::faults::SchemeFault;
-use crate::scheme::Scheme;
+use crate::counted::Counted;
+use crate::skeleton::Skeleton;
 use crate::walk::reached;
 use formats::specification::Specification;
 use nesting::sealed::SealedSpecification;
 
 /// A scheme that keeps the specification, and walks along its edges at each question.
+pub type Walker = Counted<KeptSpecification>;
+
+/// A specification, whose edges are walked along.
 #[derive(Drop)]
-pub struct Walker {
+pub struct KeptSpecification {
     specification: Specification,
-    tally: u32,
 }
 
-impl Scheme for Walker {
-    ghost meaning = { walker_meaning };
+impl Skeleton for KeptSpecification {
+    ghost count = { kept_count };
+
+    ghost reach = { kept_test };
 
     fn new() -> Self {
-        Walker {
+        KeptSpecification {
             specification: Specification::new(),
-            tally: 0,
         }
     }
 
@@ -29,15 +31,11 @@ impl Scheme for Walker {
         self.specification = *learnt;
     }
 
-    fn question(&mut self, x: usize, y: usize) -> Result<bool, SchemeFault> {
-        let vertices = self.specification.vertices().len();
-        check_vertices(vertices, x, y)?;
-        let answer = reached(self.specification.edges(), x).has(y);
-        self.tally = self.tally.wrapping_add(1);
-        Ok(answer)
+    fn vertices(&self) -> usize {
+        self.specification.vertices().len()
     }
 
-    fn tally(&self) -> u32 {
-        self.tally
+    fn reaches(&self, x: usize, y: usize) -> bool {
+        reached(self.specification.edges(), x).has(y)
     }
 }
