@@ -1,5 +1,7 @@
-ghost use Rattle.std.specs.Prelude.{◌≡◌};
-ghost use Rattle.formats.specs.Faults.{reading_fault};
+ghost use Rattle.std.specs.Prelude.{◌≡◌, Some};
+ghost use Rattle.formats.specs.Faults.{fault_text, reading_fault};
+
+use std::fmt;
 
 /// What a fault is to whoever called: the layer that found it, its number, and its place.
 #[derive(Clone, Copy)]
@@ -7,6 +9,19 @@ pub struct Fault {
     pub layer: u8,
     pub number: u8,
     pub place: usize,
+}
+
+impl fmt::Display for Fault {
+    ghost output = { λ f. Some (fault_text f) };
+
+    fn fmt<W: fmt::Write>(&self, f: &mut fmt::Formatter<W>) -> fmt::Result {
+        let Fault {
+            layer,
+            number,
+            place,
+        } = *self;
+        write!(f, "layer={layer} number={number} place={place}")
+    }
 }
 
 /// Why a file is not read. Each variant carries its place.

@@ -1,9 +1,10 @@
-ghost use Rattle.std.specs.Prelude.{◌≡◌, ◌<◌, MatchOption};
-ghost use Rattle.records.specs.Blocks.{kind_number};
+ghost use Rattle.std.specs.Prelude.{◌≡◌, ◌<◌, MatchOption, Some};
+ghost use Rattle.records.specs.Blocks.{kind_number, kind_word};
 ghost use Rattle.records.specs.Kinds.{copy_kind, ends_kind, nest_kind, run_edge_kind, spec_edge_kind, step_kind, vertex_kind};
 ghost use Rattle.std.proofs.Common.{rules};
 
 use crate::record::{Bounds, Record, Span};
+use std::fmt;
 
 /// An edge of a specification.
 #[derive(Clone, Copy)]
@@ -146,6 +147,18 @@ pub enum BlockKind {
     Whole,
     Fork,
     Loop,
+}
+
+impl fmt::Display for BlockKind {
+    ghost output = { λ k. Some (kind_word k) };
+
+    fn fmt<W: fmt::Write>(&self, f: &mut fmt::Formatter<W>) -> fmt::Result {
+        f.pad(match self {
+            BlockKind::Whole => "whole",
+            BlockKind::Fork => "fork",
+            BlockKind::Loop => "loop",
+        })
+    }
 }
 
 impl Nest {
