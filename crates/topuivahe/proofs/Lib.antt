@@ -1,2 +1,2 @@
-pub mod Along
+pub mod Edges
 pub mod Gathered

@@ -1,9 +1,11 @@
 -- Which vertices of a specification are meant.
 use Rattle.std.specs.Prelude.{◌≡◌, ℕ}
 use Rattle.model.specs.Specifications.{Spec, Edge}
-use Rattle.model.specs.Specifications as model
-use Rattle.topuivahe.specs.declared.members.Meant.{Meant}
-use Rattle.topuivahe.specs.declared.members.Meant.TheVariants.{Own, Domain, Entries, Exits}
+use Rattle.formats.specs.Of.{spec_of}
+use Rattle.topuivahe.specs.declared.members.SpecificationWords.{SpecificationWords}
+
+abbrev pub words_spec : SpecificationWords → Spec
+words_spec w = spec_of w.specification.now
 
 -- some edge leads to x
 abbrev pub Entered : Spec → ℕ → Type 0
@@ -13,8 +15,12 @@ Entered s x = (y : ℕ) × Edge s y x
 abbrev pub Left : Spec → ℕ → Type 0
 Left s x = (y : ℕ) × Edge s x y
 
-abbrev pub Means : Spec → Meant → ℕ → Type 0
-Means s (Own k) x = s.home x ≡ k
-Means s (Domain k) x = model.Domain s k x
-Means s Entries x = ¬ (Entered s x)
-Means s Exits x = ¬ (Left s x)
+-- x is at home in block k; no edge leads to x; no edge leads from x
+abbrev pub AtHome : Spec → ℕ → ℕ → Type 0
+AtHome s k x = s.home x ≡ k
+
+abbrev pub NotEntered : Spec → ℕ → Type 0
+NotEntered s x = ¬ (Entered s x)
+
+abbrev pub NotLeft : Spec → ℕ → Type 0
+NotLeft s x = ¬ (Left s x)

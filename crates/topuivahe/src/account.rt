@@ -1,105 +1,124 @@
-use crate::failure::Failure;
-use crate::file::{Sizes, first_sizes};
-use crate::forms::Form;
-use crate::picks::{Opened, Pick};
-use crate::refusal::{last_line, sealing_words};
-use crate::tables::{blocks_table, edges_table, vertices_table};
+use crate::file::{File, sizes_of};
+use crate::members::SpecificationWords;
+use crate::picks::RunWords;
+use crate::refusal::Refusal;
 use conformance::faults::ConformanceFault;
-use formats::specification::Specification;
 use rules::faults::NestingFault;
-use std::alloc::Global;
+use std::alloc::AllocError;
+use std::fmt;
 
-/// A file: its name and its bytes.
-#[derive(Clone, Copy)]
-pub struct File<'a> {
-    pub name: &'a str,
-    pub bytes: &'a [u8],
+/// The text that is printed of a file, and whether what it is of was accepted.
+#[derive(Drop)]
+pub enum Account {
+    Accepted(String),
+    Refused(String),
 }
 
-/// What is known of any file: its name, its length, and its sizes if it has them.
-fn heading(out: &mut String, file: File, labels: (&str, &str, &str)) -> Result<(), Failure> {
-    let name = file.name;
-    let length = file.bytes.len();
-    let (a, b, c) = labels;
-    writeln!(out, "File      {name}\nLength    {length} bytes")?;
-    if let Some(sizes) = first_sizes(file.bytes) {
-        let Sizes {
-            first,
-            second,
-            third,
-        } = sizes;
-        writeln!(out, "{a:<8}  {first}\n{b:<8}  {second}\n{c:<8}  {third}")?;
+impl Account {
+    /// The account that ends, after an empty line, with the word `accepted` or with the refusal.
+    fn ended(
+        mut text: String,
+        accepted: &str,
+        verdict: Result<(), Refusal>,
+    ) -> Result<Self, AllocError> {
+        match verdict {
+            Ok(()) => {
+                writeln!(text, "\n{accepted}")?;
+                Ok(Account::Accepted(text))
+            }
+            Err(refusal) => {
+                writeln!(text, "\n{refusal}")?;
+                Ok(Account::Refused(text))
+            }
+        }
     }
-    Ok(())
 }
 
-const OF_SPECIFICATION: (&str, &str, &str) = ("Vertices", "Edges", "Blocks");
+/// What is known of any file: its name, its length, and its sizes if it has them, each with its label.
+#[derive(Clone, Copy)]
+struct Heading<'a> {
+    file: File<'a>,
+    labels: [&'static str; 3],
+}
 
-const OF_RUN: (&str, &str, &str) = ("Copies", "Steps", "Edges");
+impl fmt::Display for Heading<'_> {
+    fn fmt<W: fmt::Write>(&self, f: &mut fmt::Formatter<W>) -> fmt::Result {
+        let name = self.file.name;
+        let length = self.file.bytes.len();
+        writeln!(f, "File      {name}\nLength    {length} bytes")?;
+        match sizes_of(self.file.bytes) {
+            Some(sizes) => self.sizes(f, sizes),
+            None => Ok(()),
+        }
+    }
+}
+
+impl Heading<'_> {
+    fn sizes<W: fmt::Write>(self, f: &mut fmt::Formatter<W>, sizes: [u16; 3]) -> fmt::Result {
+        let [a, b, c] = self.labels;
+        let [first, second, third] = sizes;
+        writeln!(f, "{a:<8}  {first}\n{b:<8}  {second}\n{c:<8}  {third}")
+    }
+}
+
+const OF_SPECIFICATION: [&str; 3] = ["Vertices", "Edges", "Blocks"];
+
+const OF_RUN: [&str; 3] = ["Copies", "Steps", "Edges"];
 
 /// The whole text for a specification: what is known of it, and last whether it is sealed.
 pub fn report(
-    heap: Global,
+    words: SpecificationWords,
     file: File,
-    specification: &Specification,
     verdict: Result<(), NestingFault>,
-) -> Result<String, Failure> {
-    let mut out = String::new(heap);
-    heading(&mut out, file, OF_SPECIFICATION)?;
+) -> Result<Account, AllocError> {
+    let labels = OF_SPECIFICATION;
+    let heading = Heading { file, labels };
+    let mut out = format!(in words.heap; "{heading}")?;
     match verdict {
         Err(NestingFault::Reading(_)) => {}
-        _ => {
-            blocks_table(&mut out, heap, specification)?;
-            vertices_table(&mut out, specification)?;
-            edges_table(&mut out, specification)?;
-        }
+        _ => words.tables(&mut out)?,
     }
-    let refusal = match verdict {
-        Ok(()) => None,
-        Err(fault) => Some((
-            fault.fault(),
-            sealing_words(heap, fault, file.bytes, specification)?,
-        )),
+    let verdict = match verdict {
+        Ok(()) => Ok(()),
+        Err(fault) => Err(words.refusal(fault, file.bytes)?),
     };
-    last_line(&mut out, "sealed", refusal)?;
-    Ok(out)
+    Account::ended(out, "sealed", verdict)
 }
 
 /// What is known of a run that was opened.
-fn contents(out: &mut String, heap: Global, opened: Opened, conforms: bool) -> Result<(), Failure> {
+fn contents(out: &mut String, words: RunWords, conforms: bool) -> Result<(), AllocError> {
     writeln!(out, "\nCopies, each with its steps and the copies in it")?;
-    opened.tree(out, heap)?;
-    let along = opened.picked(heap, Pick::Along)?.len();
-    let back = opened.run.edges().saturating_sub(along);
+    words.tree(out)?;
+    let along = words.along()?.len();
+    let back = words.opened.run.edges().saturating_sub(along);
     let title = if conforms { "Edges" } else { "Edges listed" };
     writeln!(
         out,
         "\n{title}\n  {along} along an edge of the specification\n  {back} from the end of one round of a loop to the start of the next"
-    )?;
-    Ok(())
+    )
 }
 
 /// The whole text for a run: what is known of both files, and last whether the run conforms.
 pub fn run_report(
-    heap: Global,
+    words: RunWords,
     specification: File,
     file: File,
-    opened: Opened,
     verdict: Result<(), ConformanceFault>,
-) -> Result<String, Failure> {
-    let mut out = String::new(heap);
-    writeln!(out, "Specification")?;
-    heading(&mut out, specification, OF_SPECIFICATION)?;
-    writeln!(out, "\nRun")?;
-    heading(&mut out, file, OF_RUN)?;
-    let refusal = match verdict {
-        Ok(()) => None,
-        Err(fault) => Some((fault.fault(), opened.words(heap, fault, file.bytes)?)),
+) -> Result<Account, AllocError> {
+    let above = Heading {
+        file: specification,
+        labels: OF_SPECIFICATION,
     };
+    let labels = OF_RUN;
+    let heading = Heading { file, labels };
+    let mut out = format!(in words.heap; "Specification\n{above}\nRun\n{heading}")?;
     match verdict {
         Err(ConformanceFault::Nesting(NestingFault::Reading(_))) => {}
-        _ => contents(&mut out, heap, opened, refusal.is_none())?,
+        _ => contents(&mut out, words, verdict.is_ok())?,
     }
-    last_line(&mut out, "conforms", refusal)?;
-    Ok(out)
+    let verdict = match verdict {
+        Ok(()) => Ok(()),
+        Err(fault) => Err(words.refusal(fault, file.bytes)?),
+    };
+    Account::ended(out, "conforms", verdict)
 }

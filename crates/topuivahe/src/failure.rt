@@ -1,5 +1,5 @@
 use std::alloc::{AllocError, AllocFailed};
-use std::{fmt, io};
+use std::io;
 
 /// Why the program ends with status 1.
 #[derive(Debug, Drop)]
@@ -24,12 +24,6 @@ impl From<AllocError> for Failure {
 
 impl<T: Drop> From<AllocFailed<T>> for Failure {
     fn from(_error: AllocFailed<T>) -> Self {
-        Failure::Memory
-    }
-}
-
-impl From<fmt::Error> for Failure {
-    fn from(_error: fmt::Error) -> Self {
         Failure::Memory
     }
 }

@@ -1,4 +1,4 @@
-use crate::file::{FileSizes, Sizes, first_sizes, stated_sizes};
+use crate::file::sizes_of;
 use records::kinds::{Nest, RunCopy, RunEdge, SpecEdge, Step, Vertex};
 use records::record::Record;
 
@@ -21,7 +21,6 @@ pub struct Size {
 /// The number that the words for what is allowed end with.
 #[derive(Clone, Copy)]
 enum Limit {
-    None,
     Number(usize),
     /// The number of the record itself.
     Record,
@@ -35,9 +34,9 @@ struct Stretch {
     count: u16,
     /// What it must be in record 0, if that record has a rule of its own.
     zero: Option<&'static str>,
-    /// What it must be, up to the limit.
+    /// What it must be, up to the limit if there is one.
     wanted: &'static str,
-    limit: Limit,
+    limit: Option<Limit>,
 }
 
 /// A number of a section: what it is, the record that it belongs to, how many records the section has, and what it must be.
@@ -58,41 +57,32 @@ impl Stretch {
             count,
             zero: None,
             wanted,
-            limit: Limit::Number(end),
+            limit: Some(Limit::Number(end)),
         }
     }
 
     fn spot(self, record: usize) -> Spot {
-        let mut wanted = self.wanted;
-        let mut limit = match self.limit {
-            Limit::None => None,
-            Limit::Number(number) => Some(number),
-            Limit::Record => Some(record),
+        let (wanted, limit) = match self.zero {
+            Some(zero) if record == 0 => (zero, None),
+            _ => (self.wanted, self.limit),
         };
-        if record == 0 {
-            if let Some(zero) = self.zero {
-                wanted = zero;
-                limit = None;
-            }
-        }
         Spot {
             name: self.name,
             record,
             count: self.count,
             wanted,
-            limit,
+            limit: limit.map(|limit| match limit {
+                Limit::Number(number) => number,
+                Limit::Record => record,
+            }),
         }
     }
 }
 
 const WHOLE: Option<&str> = Some("0, since block 0 is the whole");
 
-fn specification_parts(sizes: FileSizes) -> [Stretch; 8] {
-    let FileSizes {
-        vertices: n,
-        edges: m,
-        blocks: b,
-    } = sizes;
+fn specification_parts(sizes: [u16; 3]) -> [Stretch; 8] {
+    let [n, m, b] = sizes;
     let vertex = "a vertex, so below";
     [
         Stretch::below("tail of edge", m, vertex, n as usize),
@@ -103,21 +93,21 @@ fn specification_parts(sizes: FileSizes) -> [Stretch; 8] {
             count: n,
             zero: None,
             wanted: "any number",
-            limit: Limit::None,
+            limit: None,
         },
         Stretch {
             name: "parent of block",
             count: b,
             zero: WHOLE,
             wanted: "a block numbered below",
-            limit: Limit::Record,
+            limit: Some(Limit::Record),
         },
         Stretch {
             name: "kind of block",
             count: b,
             zero: WHOLE,
             wanted: "1 for a fork or 2 for a loop",
-            limit: Limit::None,
+            limit: None,
         },
         Stretch::below("source of block", b, vertex, n as usize),
         Stretch::below("sink of block", b, vertex, n as usize),
@@ -126,12 +116,8 @@ fn specification_parts(sizes: FileSizes) -> [Stretch; 8] {
 
 const ROOT: Option<&str> = Some("0, since copy 0 is that of the whole");
 
-fn run_parts(sizes: Sizes, vertices: usize, blocks: usize) -> [Stretch; 6] {
-    let Sizes {
-        first: c,
-        second: v,
-        third: e,
-    } = sizes;
+fn run_parts(sizes: [u16; 3], vertices: usize, blocks: usize) -> [Stretch; 6] {
+    let [c, v, e] = sizes;
     let step = "a step, so below";
     [
         Stretch {
@@ -139,14 +125,14 @@ fn run_parts(sizes: Sizes, vertices: usize, blocks: usize) -> [Stretch; 6] {
             count: c,
             zero: ROOT,
             wanted: "a copy numbered below",
-            limit: Limit::Record,
+            limit: Some(Limit::Record),
         },
         Stretch {
             name: "block of copy",
             count: c,
             zero: ROOT,
             wanted: "a block inside the whole, so above 0 and below",
-            limit: Limit::Number(blocks),
+            limit: Some(Limit::Number(blocks)),
         },
         Stretch::below("context of step", v, "a copy, so below", c as usize),
         Stretch::below("origin of step", v, "a vertex, so below", vertices),
@@ -184,11 +170,10 @@ impl Form {
 
     /// Which number the byte `at` of a file belongs to.
     pub fn spot(self, bytes: &[u8], at: usize) -> Option<Spot> {
+        let sizes = sizes_of(bytes)?;
         match self {
-            Form::Specification => spot_of(&specification_parts(stated_sizes(bytes)?), at),
-            Form::Run { vertices, blocks } => {
-                spot_of(&run_parts(first_sizes(bytes)?, vertices, blocks), at)
-            }
+            Form::Specification => spot_of(&specification_parts(sizes), at),
+            Form::Run { vertices, blocks } => spot_of(&run_parts(sizes, vertices, blocks), at),
         }
     }
 }

@@ -1,60 +1,28 @@
-use std::alloc::{AllocError, Global};
+use std::fmt;
 
-/// The numbers from `first` to `last`.
+/// An ascending list of numbers, printed as `0, 2 to 5`, or as `none` if it is empty.
 #[derive(Clone, Copy)]
-struct Run {
-    first: usize,
-    last: usize,
-}
+pub struct Listed<'a>(pub &'a [usize]);
 
-fn run_text(heap: Global, run: Run) -> Result<String, AllocError> {
-    let Run { first, last } = run;
-    if first == last {
-        format!(in heap; "{first}")
-    } else if first.checked_add(1) == Some(last) {
-        format!(in heap; "{first}, {last}")
-    } else {
-        format!(in heap; "{first} to {last}")
-    }
-}
-
-/// The runs of neighbours in an ascending list.
-fn runs(heap: Global, numbers: &[usize]) -> Result<Vec<Run>, AllocError> {
-    let mut all = Vec::new(heap);
-    let mut open: Option<Run> = None;
-    for number in numbers {
-        let last = *number;
-        match open {
-            Some(run) if run.last.checked_add(1) == Some(last) => {
-                open = Some(Run {
-                    first: run.first,
-                    last,
-                });
-            }
-            Some(run) => {
-                all.push(run)?;
-                open = Some(Run { first: last, last });
-            }
-            None => open = Some(Run { first: last, last }),
+impl fmt::Display for Listed<'_> {
+    fn fmt<W: fmt::Write>(&self, f: &mut fmt::Formatter<W>) -> fmt::Result {
+        if self.0.is_empty() {
+            return f.write_str("none");
         }
-    }
-    if let Some(run) = open {
-        all.push(run)?;
-    }
-    Ok(all)
-}
-
-/// An ascending list of numbers in words, as `0, 2 to 5`; `none` if it is empty.
-pub fn listed(heap: Global, numbers: &[usize]) -> Result<String, AllocError> {
-    if numbers.is_empty() {
-        return String::from_str(heap, "none");
-    }
-    let mut text = String::new(heap);
-    for (i, run) in runs(heap, numbers)?.iter().enumerate() {
-        if i > 0 {
-            text.push_str(", ")?;
+        let runs = self
+            .0
+            .chunk_by(|last, next| last.checked_add(1) == Some(*next));
+        for (i, run) in runs.enumerate() {
+            if i > 0 {
+                f.write_str(", ")?;
+            }
+            match run {
+                [] => {}
+                [only] => write!(f, "{only}")?,
+                [first, last] => write!(f, "{first}, {last}")?,
+                [first, .., last] => write!(f, "{first} to {last}")?,
+            }
         }
-        text.push_str(run_text(heap, *run)?.as_str())?;
+        Ok(())
     }
-    Ok(text)
 }

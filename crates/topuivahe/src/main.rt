@@ -18,92 +18,94 @@ mod sealing_words;
 mod tables;
 mod tree;
 
-use crate::account::{File, report, run_report};
+use crate::account::{Account, report, run_report};
 use crate::failure::Failure;
-use crate::picks::Opened;
-use crate::reach::{Kind, Question, reach};
-use crate::refusal::{refusal_line, sealing_words};
+use crate::file::File;
+use crate::members::SpecificationWords;
+use crate::picks::{Opened, RunWords};
+use crate::reach::{Inquiry, Kind, Question, reach};
 use conformance::checking::check as check_conforms;
 use formats::run_file::RunFile;
 use formats::specification::Specification;
 use nesting::sealed::SealedSpecification;
 use nesting::sealing::read_and_seal;
 use rules::faults::NestingFault;
-use std::alloc::Global;
+use std::alloc::AllocError;
 use std::process::ExitCode;
-use std::{env, fs, io};
+use std::{env, fs};
 
 /// What the arguments ask.
-#[derive(Drop)]
-enum Asked {
+#[derive(Clone, Copy)]
+enum Asked<'a> {
     /// To check a specification, and a run if there is one.
     Check {
-        specification: String,
-        run: Option<String>,
+        specification: &'a str,
+        run: Option<&'a str>,
     },
     /// Which vertices of a specification reach which.
     Reach {
-        specification: String,
-        kind: Kind,
-        question: Question,
+        specification: &'a str,
+        inquiry: Inquiry,
     },
-}
-
-fn word(argument: &Option<String>) -> &str {
-    match argument {
-        Some(text) => text.as_str(),
-        None => "",
-    }
 }
 
 fn pair(x: &str, y: &str) -> Option<Question> {
     Some(Question::Pair(x.parse().ok()?, y.parse().ok()?))
 }
 
-/// The question and the scheme that up to four words ask for.
-fn reach_asked(words: [&str; 4]) -> Option<(Question, Kind)> {
-    match words {
-        ["", "", "", ""] => Some((Question::All, Kind::Matrix)),
-        ["--scheme", name, "", ""] => Some((Question::All, Kind::named(name)?)),
-        [x, y, "", ""] => Some((pair(x, y)?, Kind::Matrix)),
-        [x, y, "--scheme", name] => Some((pair(x, y)?, Kind::named(name)?)),
-        _ => None,
+/// The question and the scheme that up to four words ask for; an empty word is the same as none.
+fn reach_asked(words: [&str; 4]) -> Option<Inquiry> {
+    let (question, kind) = match words {
+        ["", "", "", ""] => (Question::All, Kind::Matrix),
+        ["--scheme", name, "", ""] => (Question::All, name.parse().ok()?),
+        [x, y, "", ""] => (pair(x, y)?, Kind::Matrix),
+        [x, y, "--scheme", name] => (pair(x, y)?, name.parse().ok()?),
+        _ => return None,
+    };
+    Some(Inquiry { question, kind })
+}
+
+/// The argument at place `i`, or an empty word where there is none.
+fn word(arguments: &[String], i: usize) -> &str {
+    match arguments.get(i) {
+        Some(argument) => argument.as_str(),
+        None => "",
     }
 }
 
 /// What the arguments ask, or nothing where they are not as the usage text says.
-fn what_is_asked(rt: &HostRuntime) -> io::Result<Option<Asked>> {
-    let mut args = env::args(rt)?;
-    let _program = args.next();
-    let (Some(command), Some(specification)) = (args.next(), args.next()) else {
-        return Ok(None);
+fn what_is_asked(arguments: &[String]) -> Option<Asked<'_>> {
+    let [command, specification, rest @ ..] = arguments else {
+        return None;
     };
-    let (first, second, third, fourth) = (args.next(), args.next(), args.next(), args.next());
-    if args.next().is_some() {
-        return Ok(None);
-    }
-    if command.as_str() == "check" && second.is_none() {
-        return Ok(Some(Asked::Check {
+    let specification = specification.as_str();
+    match (command.as_str(), rest) {
+        ("check", []) => Some(Asked::Check {
             specification,
-            run: first,
-        }));
-    }
-    let words = [word(&first), word(&second), word(&third), word(&fourth)];
-    if command.as_str() != "reach" {
-        return Ok(None);
-    }
-    match reach_asked(words) {
-        Some((question, kind)) => Ok(Some(Asked::Reach {
+            run: None,
+        }),
+        ("check", [run]) => Some(Asked::Check {
             specification,
-            kind,
-            question,
-        })),
-        None => Ok(None),
+            run: Some(run.as_str()),
+        }),
+        ("reach", _) if rest.len() <= 4 => {
+            let words = [word(rest, 0), word(rest, 1), word(rest, 2), word(rest, 3)];
+            Some(Asked::Reach {
+                specification,
+                inquiry: reach_asked(words)?,
+            })
+        }
+        _ => None,
     }
 }
 
+/// The arguments, without the name of the program.
+fn arguments(rt: &HostRuntime) -> Result<Vec<String>, Failure> {
+    Ok(env::args(rt)?.skip(1).collect(rt.alloc())?)
+}
+
 fn usage(rt: &HostRuntime) -> Result<(), Failure> {
-    // the name of the second scheme in two pieces, for the reason given at `Kind::named`
+    // the name of the second scheme in two pieces, for the reason given at `Kind`
     rt.eprintln(concat!(
         "usage: topuivahe check FILE\n",
         "Reads the workflow specification in FILE, seals it and prints an account of it.\n",
@@ -132,44 +134,29 @@ fn bytes_of(rt: &HostRuntime, name: &str) -> Result<Vec<u8>, Failure> {
     }
 }
 
-/// Prints an account of the file `name`, and says whether what it is of was accepted.
+/// Prints an account of the file `name`.
 fn printed(
     rt: &HostRuntime,
     name: &str,
-    account: Result<String, Failure>,
-    accepted: bool,
+    account: Result<Account, AllocError>,
 ) -> Result<(), Failure> {
     match account {
-        Ok(text) => rt.print(text)?,
+        Ok(Account::Accepted(text)) => {
+            rt.print(text)?;
+            Ok(())
+        }
+        Ok(Account::Refused(text)) => {
+            rt.print(text)?;
+            Err(Failure::Refused)
+        }
         Err(_) => {
             eprintln!(rt; "topuivahe: no memory for the account of {name}")?;
-            return Err(Failure::Memory);
+            Err(Failure::Memory)
         }
     }
-    if accepted {
-        Ok(())
-    } else {
-        Err(Failure::Refused)
-    }
 }
 
-/// Checks a run against a sealed specification: the account of it, and whether it conforms.
-fn conforming<'a>(
-    heap: Global,
-    specification: File,
-    sealed: &'a SealedSpecification,
-    file: File<'a>,
-) -> (Result<String, Failure>, bool) {
-    let mut run = RunFile::new();
-    let verdict = check_conforms(sealed, file.bytes, &mut run);
-    let opened = Opened {
-        specification: sealed.specification(),
-        run,
-    };
-    let account = run_report(heap, specification, file, opened, verdict);
-    (account, verdict.is_ok())
-}
-
+/// Checks a run against a sealed specification, which stands in the file `specification`.
 fn check_run(
     rt: &HostRuntime,
     specification: File,
@@ -178,11 +165,20 @@ fn check_run(
 ) -> Result<(), Failure> {
     let bytes = bytes_of(rt, name)?;
     let bytes = bytes.as_slice();
-    let (account, accepted) = conforming(rt.alloc(), specification, sealed, File { name, bytes });
-    printed(rt, name, account, accepted)
+    let mut run = RunFile::new();
+    let verdict = check_conforms(sealed, bytes, &mut run);
+    let words = RunWords {
+        heap: rt.alloc(),
+        opened: Opened {
+            specification: sealed.specification(),
+            run,
+        },
+    };
+    let account = run_report(words, specification, File { name, bytes }, verdict);
+    printed(rt, name, account)
 }
 
-fn check(rt: &HostRuntime, name: &str, run: &Option<String>) -> Result<(), Failure> {
+fn check(rt: &HostRuntime, name: &str, run: Option<&str>) -> Result<(), Failure> {
     let bytes = bytes_of(rt, name)?;
     let bytes = bytes.as_slice();
     let file = File { name, bytes };
@@ -190,60 +186,61 @@ fn check(rt: &HostRuntime, name: &str, run: &Option<String>) -> Result<(), Failu
     let mut sealed = SealedSpecification::new();
     let verdict = read_and_seal(bytes, &mut specification, &mut sealed);
     match (verdict, run) {
-        (Ok(()), Some(run)) => check_run(rt, file, &sealed, run.as_str()),
+        (Ok(()), Some(run)) => check_run(rt, file, &sealed, run),
         _ => {
-            let account = report(rt.alloc(), file, &specification, verdict);
-            printed(rt, name, account, verdict.is_ok())
+            let words = SpecificationWords {
+                heap: rt.alloc(),
+                specification: &specification,
+            };
+            printed(rt, name, report(words, file, verdict))
         }
     }
 }
 
-/// The line that says why a specification is not sealed.
+/// The account of a specification that is not sealed: the line that says why.
 fn not_sealed(
-    heap: Global,
+    words: SpecificationWords,
     bytes: &[u8],
-    specification: &Specification,
     fault: NestingFault,
-) -> Result<String, Failure> {
-    let mut out = String::new(heap);
-    let words = sealing_words(heap, fault, bytes, specification)?;
-    refusal_line(&mut out, fault.fault(), words.as_str())?;
-    Ok(out)
+) -> Result<Account, AllocError> {
+    let refusal = words.refusal(fault, bytes)?;
+    Ok(Account::Refused(format!(in words.heap; "{refusal}\n")?))
 }
 
-fn tell_reach(rt: &HostRuntime, name: &str, kind: Kind, question: Question) -> Result<(), Failure> {
+fn tell_reach(rt: &HostRuntime, name: &str, inquiry: Inquiry) -> Result<(), Failure> {
     let bytes = bytes_of(rt, name)?;
     let bytes = bytes.as_slice();
     let mut specification = Specification::new();
     let mut sealed = SealedSpecification::new();
     match read_and_seal(bytes, &mut specification, &mut sealed) {
         Ok(()) => {
-            let (text, accepted) = reach(rt.alloc(), &sealed, kind, question)?;
-            printed(rt, name, Ok(text), accepted)
+            let account = reach(rt.alloc(), &sealed, inquiry)?;
+            printed(rt, name, Ok(account))
         }
-        Err(fault) => printed(
-            rt,
-            name,
-            not_sealed(rt.alloc(), bytes, &specification, fault),
-            false,
-        ),
+        Err(fault) => {
+            let words = SpecificationWords {
+                heap: rt.alloc(),
+                specification: &specification,
+            };
+            printed(rt, name, not_sealed(words, bytes, fault))
+        }
     }
 }
 
 /// Does what the arguments ask.
 fn answer(rt: &HostRuntime) -> Result<(), Failure> {
-    match what_is_asked(rt) {
-        Ok(Some(Asked::Check { specification, run })) => check(rt, specification.as_str(), &run),
-        Ok(
-            Some(
-                Asked::Reach {
-                    specification,
-                    kind,
-                    question,
-                },
-            ),
-        ) => tell_reach(rt, specification.as_str(), kind, question),
-        _ => usage(rt),
+    let Ok(arguments) = arguments(rt) else {
+        return usage(rt);
+    };
+    match what_is_asked(arguments.as_slice()) {
+        Some(Asked::Check { specification, run }) => check(rt, specification, run),
+        Some(
+            Asked::Reach {
+                specification,
+                inquiry,
+            },
+        ) => tell_reach(rt, specification, inquiry),
+        None => usage(rt),
     }
 }
 

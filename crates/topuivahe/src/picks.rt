@@ -1,9 +1,10 @@
 ghost use Rattle.std.specs.Prelude.{◌≡◌, ◌<◌, T, ◌↔◌, IfOk};
-ghost use Rattle.model.specs.Specifications.{Edge};
+ghost use Rattle.formats.specs.RunFiles.{run_of};
 ghost use Rattle.nesting.specs.Copies.{Under};
 ghost use Rattle.topuivahe.specs.Listings.{Lists};
-ghost use Rattle.topuivahe.specs.Picks.{opened_spec, opened_run, HasStep, GoesAlong, Means, how_many_lem};
+ghost use Rattle.topuivahe.specs.Picks.{opened_spec, opened_run, edge_count, HasStep, GoesAlong, Inner, Group, StepOf, Twin, Leaves, Lacked, Missed};
 
+use crate::members::has_edge;
 use formats::run_file::RunFile;
 use formats::specification::Specification;
 use std::alloc::{AllocError, Global};
@@ -15,128 +16,144 @@ pub struct Opened<'a> {
     pub run: RunFile<'a>,
 }
 
-/// Which copies, steps, edges, blocks or vertices are meant.
+/// An opened run that there are words for, and the heap on which they are made.
 #[derive(Clone, Copy)]
-pub enum Pick {
-    /// The copies directly under the copy.
-    Inner(usize),
-    /// The copies with the parent and the block of the copy.
-    Group(usize),
-    /// The steps of the copy.
-    Steps(usize),
-    /// The steps with the context and the origin of the step.
-    Twins(usize),
-    /// The edges along an edge of the specification.
-    Along,
-    /// The edges from the step.
-    Leaving(usize),
-    /// The blocks nested directly in the block of the copy that have no copy under it.
-    Lacked(usize),
-    /// The vertices at home in the block of the copy that have no step there.
-    Missed(usize),
+pub struct RunWords<'a> {
+    pub heap: Global,
+    pub opened: Opened<'a>,
 }
 
-impl Opened<'_> {
-    /// Whether the specification has an edge from `x` to `y`.
-    fn has_edge(self, x: usize, y: usize) -> bool
-        ensures { T result ↔ Edge (opened_spec self.entry) x y }
+/// Whether the edge at index `k` goes along an edge of the specification.
+fn goes_along(opened: Opened, k: usize) -> bool
+    ensures { T result ↔ GoesAlong opened.entry k }
+{
+    let edge = opened.run.edge(k);
+    let from = opened.run.step(edge.tail as usize);
+    let to = opened.run.step(edge.head as usize);
+    has_edge(
+        opened.specification,
+        from.origin as usize,
+        to.origin as usize,
+    )
+}
+
+/// Whether the edge at index `k` leads from step `u`.
+fn leaves(opened: Opened, u: usize, k: usize) -> bool
+    ensures { T result ↔ Leaves opened.entry u k }
+{
+    opened.run.edge(k).tail as usize == u
+}
+
+/// Whether a copy of block `k` stands directly under copy `i`.
+fn has_copy(run: RunFile, i: usize, k: usize) -> bool
+    ensures { T result ↔ Under (run_of run.entry.bytes.now) i k }
+{
+    (1..run.copies()).any(|j| {
+        let copy = run.copy(j);
+        copy.parent as usize == i && copy.block as usize == k
+    })
+}
+
+/// Whether copy `i` has a step of vertex `x`.
+fn has_step(run: RunFile, i: usize, x: usize) -> bool
+    ensures { T result ↔ HasStep (run_of run.entry.bytes.now) i x }
+{
+    (0..run.steps()).any(|u| {
+        let step = run.step(u);
+        step.context as usize == i && step.origin as usize == x
+    })
+}
+
+impl RunWords<'_> {
+    /// The copies directly under the copy, ascending.
+    pub fn inner(self, copy: usize) -> Result<Vec<usize>, AllocError>
+        ensures { IfOk result (λ v. Lists (Inner self.entry.opened copy) (opened_run self.entry.opened).c v.items) }
     {
-        for edge in self.specification.edges() {
-            if edge.tail as usize == x && edge.head as usize == y {
-                return true;
-            }
-        }
-        false
+        let run = self.opened.run;
+        (0..run.copies())
+            .filter(|&j| j > 0 && run.copy(j).parent as usize == copy)
+            .collect(self.heap)
     }
 
-    /// Whether the edge at index `k` goes along an edge of the specification.
-    fn goes_along(self, k: usize) -> bool
-        ensures { T result ↔ GoesAlong self.entry k }
+    /// The copies with the parent and the block of the copy, ascending.
+    pub fn group(self, copy: usize) -> Result<Vec<usize>, AllocError>
+        ensures { IfOk result (λ v. Lists (Group self.entry.opened copy) (opened_run self.entry.opened).c v.items) }
     {
-        let edge = self.run.edge(k);
-        let from = self.run.step(edge.tail as usize);
-        let to = self.run.step(edge.head as usize);
-        self.has_edge(from.origin as usize, to.origin as usize)
-    }
-
-    /// Whether a copy of block `k` stands directly under copy `i`.
-    fn has_copy(self, i: usize, k: usize) -> bool
-        ensures { T result ↔ Under (opened_run self.entry) i k }
-    {
-        for j in 1..self.run.copies() {
-            let copy = self.run.copy(j);
-            if copy.parent as usize == i && copy.block as usize == k {
-                return true;
-            }
-        }
-        false
-    }
-
-    /// Whether copy `i` has a step of vertex `x`.
-    fn has_step(self, i: usize, x: usize) -> bool
-        ensures { T result ↔ HasStep (opened_run self.entry) i x }
-    {
-        for u in 0..self.run.steps() {
-            let step = self.run.step(u);
-            if step.context as usize == i && step.origin as usize == x {
-                return true;
-            }
-        }
-        false
-    }
-
-    fn means(self, pick: Pick, j: usize) -> bool
-        ensures { T result ↔ Means self.entry pick j }
-    {
-        match pick {
-            Pick::Inner(i) => j > 0 && self.run.copy(j).parent as usize == i,
-            Pick::Group(i) => {
-                let this = self.run.copy(i);
-                let other = self.run.copy(j);
+        let run = self.opened.run;
+        let this = run.copy(copy);
+        (0..run.copies())
+            .filter(|&j| {
+                let other = run.copy(j);
                 j > 0 && other.parent == this.parent && other.block == this.block
-            }
-            Pick::Steps(i) => self.run.step(j).context as usize == i,
-            Pick::Twins(u) => {
-                let this = self.run.step(u);
-                let other = self.run.step(j);
+            })
+            .collect(self.heap)
+    }
+
+    /// The steps of the copy, ascending.
+    pub fn steps(self, copy: usize) -> Result<Vec<usize>, AllocError>
+        ensures { IfOk result (λ v. Lists (StepOf self.entry.opened copy) (opened_run self.entry.opened).v v.items) }
+    {
+        let run = self.opened.run;
+        (0..run.steps())
+            .filter(|&u| run.step(u).context as usize == copy)
+            .collect(self.heap)
+    }
+
+    /// The steps with the context and the origin of the step, ascending.
+    pub fn twins(self, step: usize) -> Result<Vec<usize>, AllocError>
+        ensures { IfOk result (λ v. Lists (Twin self.entry.opened step) (opened_run self.entry.opened).v v.items) }
+    {
+        let run = self.opened.run;
+        let this = run.step(step);
+        (0..run.steps())
+            .filter(|&u| {
+                let other = run.step(u);
                 other.context == this.context && other.origin == this.origin
-            }
-            Pick::Along => self.goes_along(j),
-            Pick::Leaving(u) => self.run.edge(j).tail as usize == u,
-            Pick::Lacked(i) => {
-                j > 0
-                    && self.specification.nest(j).parent == self.run.copy(i).block
-                    && !self.has_copy(i, j)
-            }
-            Pick::Missed(i) => {
-                self.specification.vertex(j).home == self.run.copy(i).block && !self.has_step(i, j)
-            }
-        }
+            })
+            .collect(self.heap)
     }
 
-    /// How many there are, meant or not.
-    fn how_many(self, pick: Pick) -> usize
-        ensures { result ≡ how_many_lem self.entry pick }
+    /// The edges along an edge of the specification, ascending.
+    pub fn along(self) -> Result<Vec<usize>, AllocError>
+        ensures { IfOk result (λ v. Lists (GoesAlong self.entry.opened) (edge_count self.entry.opened) v.items) }
     {
-        match pick {
-            Pick::Inner(_) | Pick::Group(_) => self.run.copies(),
-            Pick::Steps(_) | Pick::Twins(_) => self.run.steps(),
-            Pick::Along | Pick::Leaving(_) => self.run.edges(),
-            Pick::Lacked(_) => self.specification.nests().len(),
-            Pick::Missed(_) => self.specification.vertices().len(),
-        }
+        let opened = self.opened;
+        (0..opened.run.edges())
+            .filter(|&k| goes_along(opened, k))
+            .collect(self.heap)
     }
 
-    /// The numbers that are meant, ascending.
-    pub fn picked(self, heap: Global, pick: Pick) -> Result<Vec<usize>, AllocError>
-        ensures { IfOk result (λ v. Lists (Means self.entry pick) (how_many_lem self.entry pick) v.items) }
+    /// The edges from the step, ascending.
+    pub fn leaving(self, step: usize) -> Result<Vec<usize>, AllocError>
+        ensures { IfOk result (λ v. Lists (Leaves self.entry.opened step) (edge_count self.entry.opened) v.items) }
     {
-        let mut found = Vec::new(heap);
-        for j in 0..self.how_many(pick) {
-            if self.means(pick, j) {
-                found.push(j)?;
-            }
-        }
-        Ok(found)
+        let opened = self.opened;
+        (0..opened.run.edges())
+            .filter(|&k| leaves(opened, step, k))
+            .collect(self.heap)
+    }
+
+    /// The blocks nested directly in the block of the copy that have no copy under it, ascending.
+    pub fn lacked(self, copy: usize) -> Result<Vec<usize>, AllocError>
+        ensures { IfOk result (λ v. Lists (Lacked self.entry.opened copy) (opened_spec self.entry.opened).b v.items) }
+    {
+        let Opened { specification, run } = self.opened;
+        let block = run.copy(copy).block;
+        (0..specification.nests().len())
+            .filter(|&k| {
+                k > 0 && specification.nest(k).parent == block && !has_copy(run, copy, k)
+            })
+            .collect(self.heap)
+    }
+
+    /// The vertices at home in the block of the copy that have no step there, ascending.
+    pub fn missed(self, copy: usize) -> Result<Vec<usize>, AllocError>
+        ensures { IfOk result (λ v. Lists (Missed self.entry.opened copy) (opened_spec self.entry.opened).n v.items) }
+    {
+        let Opened { specification, run } = self.opened;
+        let block = run.copy(copy).block;
+        (0..specification.vertices().len())
+            .filter(|&x| specification.vertex(x).home == block && !has_step(run, copy, x))
+            .collect(self.heap)
     }
 }

@@ -1,114 +1,166 @@
 use crate::forms::Form;
-use crate::lists::listed;
-use crate::picks::{Opened, Pick};
-use crate::reading_words::reading_words;
-use crate::tables::kind_word;
+use crate::lists::Listed;
+use crate::members::kind_of;
+use crate::picks::{Opened, RunWords};
+use crate::reading_words::ReadingWords;
+use crate::refusal::Refusal;
 use conformance::faults::ConformanceFault;
+use formats::faults::ReadingFault;
 use records::kinds::{RunCopy, RunEdge, Step};
 use rules::faults::NestingFault;
-use std::alloc::{AllocError, Global};
+use std::alloc::AllocError;
+use std::fmt;
 
-impl Opened<'_> {
-    /// A copy in words.
-    fn copy_words(self, heap: Global, copy: usize) -> Result<String, AllocError> {
+/// A copy, printed in words.
+#[derive(Clone, Copy)]
+struct CopyWords<'a> {
+    opened: Opened<'a>,
+    copy: usize,
+}
+
+impl fmt::Display for CopyWords<'_> {
+    fn fmt<W: fmt::Write>(&self, f: &mut fmt::Formatter<W>) -> fmt::Result {
+        let CopyWords { opened, copy } = *self;
         if copy == 0 {
-            return String::from_str(heap, "copy 0 (of block 0, the whole)");
+            return f.write_str("copy 0 (of block 0, the whole)");
         }
-        let RunCopy { parent, block } = self.run.copy(copy);
-        let kind = kind_word(&self.specification.nest(block as usize));
-        let above = self.run.copy(parent as usize).block;
-        format!(in heap;
+        let RunCopy { parent, block } = opened.run.copy(copy);
+        let kind = kind_of(opened.specification, block as usize);
+        let above = opened.run.copy(parent as usize).block;
+        write!(
+            f,
             "copy {copy} (of block {block}, {kind}; its parent is copy {parent}, of block {above})"
         )
     }
+}
 
-    /// A step in words.
-    fn step_words(self, heap: Global, step: usize) -> Result<String, AllocError> {
-        let Step { context, origin } = self.run.step(step);
-        let block = self.run.copy(context as usize).block;
-        format!(in heap; "step {step} (of vertex {origin} in copy {context}, of block {block})")
+/// A step, printed in words.
+#[derive(Clone, Copy)]
+struct StepWords<'a> {
+    opened: Opened<'a>,
+    step: usize,
+}
+
+impl fmt::Display for StepWords<'_> {
+    fn fmt<W: fmt::Write>(&self, f: &mut fmt::Formatter<W>) -> fmt::Result {
+        let StepWords { opened, step } = *self;
+        let Step { context, origin } = opened.run.step(step);
+        let block = opened.run.copy(context as usize).block;
+        write!(
+            f,
+            "step {step} (of vertex {origin} in copy {context}, of block {block})"
+        )
     }
+}
 
-    fn picked_words(self, heap: Global, pick: Pick) -> Result<String, AllocError> {
-        listed(heap, self.picked(heap, pick)?.as_slice())
-    }
-
-    /// Why the copies are not nested as the blocks are.
-    fn misplaced_words(self, heap: Global, fault: NestingFault) -> Result<String, AllocError> {
-        match fault {
-            NestingFault::WrongParent { copy } => {
-                let this = self.copy_words(heap, copy)?;
-                let block = self.run.copy(copy).block;
-                let wanted = self.specification.nest(block as usize).parent;
-                format!(in heap;
-                    "a copy is under a copy of the wrong block: {this} must be under a copy of block {wanted}, the parent of its block"
-                )
-            }
-            NestingFault::LacksCopy { copy } => {
-                let this = self.copy_words(heap, copy)?;
-                let lacked = self.picked_words(heap, Pick::Lacked(copy))?;
-                format!(in heap;
-                    "a copy has too few under it: {this} must have under it a copy of every block whose parent is its block, and there is none of block {lacked}"
-                )
-            }
-            _ => String::from_str(heap, "the specification is not sealed"),
+impl<'a> RunWords<'a> {
+    fn copy(self, copy: usize) -> CopyWords<'a> {
+        CopyWords {
+            opened: self.opened,
+            copy,
         }
     }
 
-    /// Why an edge should not be there.
-    fn stray_words(self, heap: Global, edge: usize) -> Result<String, AllocError> {
-        let RunEdge { tail, head } = self.run.edge(edge);
-        let from = self.step_words(heap, tail as usize)?;
-        let to = self.step_words(heap, head as usize)?;
-        format!(in heap;
+    fn step(self, step: usize) -> StepWords<'a> {
+        StepWords {
+            opened: self.opened,
+            step,
+        }
+    }
+
+    /// The refusal of the run, which was read from these bytes, for that fault.
+    pub fn refusal(self, fault: ConformanceFault, bytes: &[u8]) -> Result<Refusal, AllocError> {
+        Ok(Refusal {
+            fault: fault.fault(),
+            words: self.broken(fault, bytes)?,
+        })
+    }
+
+    /// Why the run does not conform, in words.
+    fn broken(self, fault: ConformanceFault, bytes: &[u8]) -> Result<String, AllocError> {
+        match fault {
+            ConformanceFault::Nesting(fault) => match fault {
+                NestingFault::Reading(fault) => self.unread(fault, bytes),
+                NestingFault::WrongParent { copy } => self.wrong_parent(copy),
+                NestingFault::LacksCopy { copy } => self.lacks_copy(copy),
+                _ => String::from_str(self.heap, "the specification is not sealed"),
+            },
+            ConformanceFault::Astray { step } => self.astray(step),
+            ConformanceFault::Repeated { step } => self.repeated(step),
+            ConformanceFault::MissingStep { copy } => self.missing_step(copy),
+            ConformanceFault::NotDerived { edge } => self.not_derived(edge),
+            ConformanceFault::NotListed { step } => self.not_listed(step),
+        }
+    }
+
+    fn unread(self, fault: ReadingFault, bytes: &[u8]) -> Result<String, AllocError> {
+        let vertices = self.opened.specification.vertices().len();
+        let blocks = self.opened.specification.nests().len();
+        let form = Form::Run { vertices, blocks };
+        let reading = ReadingWords { fault, form, bytes };
+        format!(in self.heap; "{reading}")
+    }
+
+    fn wrong_parent(self, copy: usize) -> Result<String, AllocError> {
+        let this = self.copy(copy);
+        let block = self.opened.run.copy(copy).block;
+        let wanted = self.opened.specification.nest(block as usize).parent;
+        format!(in self.heap;
+            "a copy is under a copy of the wrong block: {this} must be under a copy of block {wanted}, the parent of its block"
+        )
+    }
+
+    fn lacks_copy(self, copy: usize) -> Result<String, AllocError> {
+        let this = self.copy(copy);
+        let blocks = self.lacked(copy)?;
+        let lacked = Listed(blocks.as_slice());
+        format!(in self.heap;
+            "a copy has too few under it: {this} must have under it a copy of every block whose parent is its block, and there is none of block {lacked}"
+        )
+    }
+
+    fn astray(self, step: usize) -> Result<String, AllocError> {
+        let this = self.step(step);
+        let origin = self.opened.run.step(step).origin;
+        let home = self.opened.specification.vertex(origin as usize).home;
+        format!(in self.heap;
+            "a step is in the wrong copy: {this} must be in a copy of block {home}, the home of its vertex"
+        )
+    }
+
+    fn repeated(self, step: usize) -> Result<String, AllocError> {
+        let this = self.step(step);
+        let steps = self.twins(step)?;
+        let twins = Listed(steps.as_slice());
+        format!(in self.heap;
+            "a vertex has more than one step in a copy: {this} has the vertex and the copy of an earlier step; the steps with these two are {twins}"
+        )
+    }
+
+    fn missing_step(self, copy: usize) -> Result<String, AllocError> {
+        let this = self.copy(copy);
+        let vertices = self.missed(copy)?;
+        let missed = Listed(vertices.as_slice());
+        format!(in self.heap;
+            "a step is missing: {this} must have a step of every vertex at home in its block, and has none of vertex {missed}"
+        )
+    }
+
+    fn not_derived(self, edge: usize) -> Result<String, AllocError> {
+        let RunEdge { tail, head } = self.opened.run.edge(edge);
+        let from = self.step(tail as usize);
+        let to = self.step(head as usize);
+        format!(in self.heap;
             "an edge is listed that should not be: edge {edge}, from {from} to {to}, follows neither from an edge of the specification nor from one round of a loop after another"
         )
     }
 
-    /// Why a run is refused, in words.
-    pub fn words(
-        self,
-        heap: Global,
-        fault: ConformanceFault,
-        bytes: &[u8],
-    ) -> Result<String, AllocError> {
-        match fault {
-            ConformanceFault::Nesting(NestingFault::Reading(fault)) => {
-                let vertices = self.specification.vertices().len();
-                let blocks = self.specification.nests().len();
-                reading_words(heap, fault, Form::Run { vertices, blocks }, bytes)
-            }
-            ConformanceFault::Nesting(fault) => self.misplaced_words(heap, fault),
-            ConformanceFault::Astray { step } => {
-                let this = self.step_words(heap, step)?;
-                let origin = self.run.step(step).origin;
-                let home = self.specification.vertex(origin as usize).home;
-                format!(in heap;
-                    "a step is in the wrong copy: {this} must be in a copy of block {home}, the home of its vertex"
-                )
-            }
-            ConformanceFault::Repeated { step } => {
-                let this = self.step_words(heap, step)?;
-                let twins = self.picked_words(heap, Pick::Twins(step))?;
-                format!(in heap;
-                    "a vertex has more than one step in a copy: {this} has the vertex and the copy of an earlier step; the steps with these two are {twins}"
-                )
-            }
-            ConformanceFault::MissingStep { copy } => {
-                let this = self.copy_words(heap, copy)?;
-                let missed = self.picked_words(heap, Pick::Missed(copy))?;
-                format!(in heap;
-                    "a step is missing: {this} must have a step of every vertex at home in its block, and has none of vertex {missed}"
-                )
-            }
-            ConformanceFault::NotDerived { edge } => self.stray_words(heap, edge),
-            ConformanceFault::NotListed { step } => {
-                let this = self.step_words(heap, step)?;
-                let leaving = self.picked_words(heap, Pick::Leaving(step))?;
-                format!(in heap;
-                    "a derived edge is not listed: from {this} an edge must lead, along an edge of the specification or to the next round of a loop, that is not among the listed edges from it (edges {leaving})"
-                )
-            }
-        }
+    fn not_listed(self, step: usize) -> Result<String, AllocError> {
+        let this = self.step(step);
+        let edges = self.leaving(step)?;
+        let leaving = Listed(edges.as_slice());
+        format!(in self.heap;
+            "a derived edge is not listed: from {this} an edge must lead, along an edge of the specification or to the next round of a loop, that is not among the listed edges from it (edges {leaving})"
+        )
     }
 }

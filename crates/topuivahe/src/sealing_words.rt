@@ -1,97 +1,96 @@
-use crate::lists::listed;
-use crate::members::{Meant, members, parent_of};
-use crate::tables::kind_word;
-use formats::specification::Specification;
+use crate::forms::Form;
+use crate::lists::Listed;
+use crate::members::{SpecificationWords, kind_of};
+use crate::reading_words::ReadingWords;
+use crate::refusal::Refusal;
 use records::kinds::Ends;
-use std::alloc::{AllocError, Global};
+use rules::faults::NestingFault;
+use std::alloc::AllocError;
 
-pub fn cycle_words(heap: Global, vertex: usize) -> Result<String, AllocError> {
-    format!(in heap;
-        "the edges make a cycle: vertex {vertex} is the lowest that leads back to itself, and none may"
-    )
-}
-
-fn vertices_words(
-    heap: Global,
-    specification: &Specification,
-    meant: Meant,
-) -> Result<String, AllocError> {
-    listed(heap, members(heap, specification, meant)?.as_slice())
-}
-
-fn ends_of(specification: &Specification, block: usize) -> Ends {
-    match specification.ends().get(block) {
-        Some(ends) => *ends,
-        None => Ends { source: 0, sink: 0 },
+impl SpecificationWords<'_> {
+    /// The refusal of the specification, which was read from these bytes, for that fault.
+    pub fn refusal(self, fault: NestingFault, bytes: &[u8]) -> Result<Refusal, AllocError> {
+        Ok(Refusal {
+            fault: fault.fault(),
+            words: self.broken(fault, bytes)?,
+        })
     }
-}
 
-pub fn whole_words(heap: Global, specification: &Specification) -> Result<String, AllocError> {
-    let Ends { source, sink } = ends_of(specification, 0);
-    let no_in = vertices_words(heap, specification, Meant::Entries)?;
-    let no_out = vertices_words(heap, specification, Meant::Exits)?;
-    let rule =
-        "its source must be the only vertex without an incoming edge, and its sink the only one without an outgoing edge";
-    format!(in heap;
-        "block 0, the whole, with source {source} and sink {sink}, breaks the rule for its ends: {rule}; without an incoming edge: {no_in}; without an outgoing edge: {no_out}"
-    )
-}
+    /// Which rule the specification breaks, and where, in words.
+    fn broken(self, fault: NestingFault, bytes: &[u8]) -> Result<String, AllocError> {
+        match fault {
+            NestingFault::Reading(fault) => {
+                let form = Form::Specification;
+                let reading = ReadingWords { fault, form, bytes };
+                format!(in self.heap; "{reading}")
+            }
+            NestingFault::Cycle { vertex } => self.cycle(vertex),
+            NestingFault::WholeEnds => self.whole(),
+            NestingFault::LoopRule { block } => self.loop_rule(block),
+            NestingFault::ForkRule { block } => self.fork_rule(block),
+            NestingFault::EqualDomains { block } => self.equal_domains(block),
+            _ => String::from_str(self.heap, "a rule for runs is broken"),
+        }
+    }
 
-/// A block in words: number, kind, ends and domain.
-fn block_words(
-    heap: Global,
-    specification: &Specification,
-    block: usize,
-) -> Result<String, AllocError> {
-    let Ends { source, sink } = ends_of(specification, block);
-    let inside = vertices_words(heap, specification, Meant::Domain(block))?;
-    let kind = match specification.nests().get(block) {
-        Some(nest) => kind_word(nest),
-        None => "block",
-    };
-    format!(in heap;
-        "block {block}, a {kind} with source {source}, sink {sink} and the domain {{{inside}}}"
-    )
-}
+    fn cycle(self, vertex: usize) -> Result<String, AllocError> {
+        format!(in self.heap;
+            "the edges make a cycle: vertex {vertex} is the lowest that leads back to itself, and none may"
+        )
+    }
 
-pub fn loop_words(
-    heap: Global,
-    specification: &Specification,
-    block: usize,
-) -> Result<String, AllocError> {
-    let this = block_words(heap, specification, block)?;
-    let ends = "its domain must contain its source and its sink";
-    let incoming =
-        "every vertex of the domain but the source must have incoming edges, all from within the domain";
-    let outgoing =
-        "every vertex of the domain but the sink must have outgoing edges, all to within the domain";
-    format!(in heap; "{this}, breaks the loop rule: {ends}; {incoming}; {outgoing}")
-}
+    fn whole(self) -> Result<String, AllocError> {
+        let Ends { source, sink } = self.specification.ends_of(0);
+        let entries = self.entries()?;
+        let exits = self.exits()?;
+        let no_in = Listed(entries.as_slice());
+        let no_out = Listed(exits.as_slice());
+        let rule =
+            "its source must be the only vertex without an incoming edge, and its sink the only one without an outgoing edge";
+        format!(in self.heap;
+            "block 0, the whole, with source {source} and sink {sink}, breaks the rule for its ends: {rule}; without an incoming edge: {no_in}; without an outgoing edge: {no_out}"
+        )
+    }
 
-pub fn fork_words(
-    heap: Global,
-    specification: &Specification,
-    block: usize,
-) -> Result<String, AllocError> {
-    let this = block_words(heap, specification, block)?;
-    let inside =
-        "its domain must have a vertex, must contain neither its source nor its sink, and must hang together by edges within it";
-    let edges =
-        "every vertex of the domain must have incoming edges, all from within the domain or from the source, and outgoing edges, all to within the domain or to the sink";
-    let ends =
-        "the source and the sink must each lie in the parent's domain, or be shared with a parent that is a fork";
-    let forks = "every fork whose domain contains the source or the sink must be above this block";
-    format!(in heap; "{this}, breaks the fork rule: {inside}; {edges}; {ends}; {forks}")
-}
+    /// A block in words: number, kind, ends and domain.
+    fn block(self, block: usize) -> Result<String, AllocError> {
+        let Ends { source, sink } = self.specification.ends_of(block);
+        let kind = kind_of(self.specification, block);
+        let domain = self.domain(block)?;
+        let inside = Listed(domain.as_slice());
+        format!(in self.heap;
+            "block {block}, a {kind} with source {source}, sink {sink} and the domain {{{inside}}}"
+        )
+    }
 
-pub fn equal_words(
-    heap: Global,
-    specification: &Specification,
-    block: usize,
-) -> Result<String, AllocError> {
-    let this = block_words(heap, specification, block)?;
-    let parent = parent_of(specification, block);
-    format!(in heap;
-        "{this}, breaks the rule of different domains: its parent, block {parent}, has the same kind and the same domain"
-    )
+    fn loop_rule(self, block: usize) -> Result<String, AllocError> {
+        let this = self.block(block)?;
+        let ends = "its domain must contain its source and its sink";
+        let incoming =
+            "every vertex of the domain but the source must have incoming edges, all from within the domain";
+        let outgoing =
+            "every vertex of the domain but the sink must have outgoing edges, all to within the domain";
+        format!(in self.heap; "{this}, breaks the loop rule: {ends}; {incoming}; {outgoing}")
+    }
+
+    fn fork_rule(self, block: usize) -> Result<String, AllocError> {
+        let this = self.block(block)?;
+        let inside =
+            "its domain must have a vertex, must contain neither its source nor its sink, and must hang together by edges within it";
+        let edges =
+            "every vertex of the domain must have incoming edges, all from within the domain or from the source, and outgoing edges, all to within the domain or to the sink";
+        let ends =
+            "the source and the sink must each lie in the parent's domain, or be shared with a parent that is a fork";
+        let forks =
+            "every fork whose domain contains the source or the sink must be above this block";
+        format!(in self.heap; "{this}, breaks the fork rule: {inside}; {edges}; {ends}; {forks}")
+    }
+
+    fn equal_domains(self, block: usize) -> Result<String, AllocError> {
+        let this = self.block(block)?;
+        let parent = self.specification.nest(block).parent;
+        format!(in self.heap;
+            "{this}, breaks the rule of different domains: its parent, block {parent}, has the same kind and the same domain"
+        )
+    }
 }

@@ -1,0 +1,8 @@
+use Rattle.std.proofs.Common.{rules}
+use Rattle.model.specs.Specifications.{Domain}
+use Rattle.topuivahe.specs.Meanings.{words_spec}
+use Rattle.topuivahe.proofs.Gathered.{filtered_below}
+use Rattle.topuivahe.proofs.members.SpecificationWords.domain.Goals as goal
+
+pub returns : goal.returns
+returns c = filtered_below _ _ _ _ (Domain (words_spec c.args.self) c.args.block) c.collect.ensures.ran (cc) c.filter.ensures.closure (λ x q k. search rules) (λ x q k. search rules)

@@ -1,0 +1,7 @@
+use Rattle.std.proofs.Common.{rules}
+use Rattle.topuivahe.specs.Picks.{StepOf}
+use Rattle.topuivahe.proofs.Gathered.{filtered_below}
+use Rattle.topuivahe.proofs.picks.RunWords.steps.Goals as goal
+
+pub returns : goal.returns
+returns c = filtered_below _ _ _ _ (StepOf c.args.self.opened c.args.copy) c.collect.ensures.ran (cc) c.filter.ensures.closure (λ x q k. search rules) (λ x q k. search rules)
