@@ -1,7 +1,8 @@
 -- Groups found by comparing copies, and a table of them filled copy by copy.
 use Rattle.std.proofs.Common.{◌≡◌, ℕ, ◌+◌, ◌<◌, ◌≤◌, Bool, true, false, not, T, ◌≢◌, ◌↔◌, List, Option, None, Some, MatchOption, length, get_or, set, arith, length-set, get_or-set_other, get_or-set_same, below_more}
 use Rattle.model.specs.Runs.{Run, Mate, First}
-use Rattle.model.proofs.Cases.{cases, less_or}
+use Rattle.std.proofs.lemmas.Bool.{cases_lt}
+use Rattle.model.proofs.Cases.{cases}
 use Rattle.conformance.specs.Groups.{Alike, NextOrLast, GroupPlace, no_place}
 use Rattle.conformance.specs.declared.group_table.Place.{Place}
 
@@ -9,11 +10,11 @@ use Rattle.conformance.specs.declared.group_table.Place.{Place}
 pub next_or_last : (r : Run) (q n : ℕ) (o : Option ℕ) → n ≡ r.c
     → MatchOption o ((k : ℕ) → q + 1 ≤ k → k < n → ¬ (Alike r q k)) (λ i. (q + 1 ≤ i) × (i < n) × Alike r q i × ((k : ℕ) → q + 1 ≤ k → k < i → ¬ (Alike r q k)))
     → NextOrLast r q o
-next_or_last r q n None e h = λ j m. cases (less_or q j) (λ l. absurd (h j (omega arith) (omega (arith, m.exists)) (m.one_parent, m.one_block))) (λ x. x)
+next_or_last r q n None e h = λ j m. cases (cases_lt q j) (λ l. absurd (h j (omega arith) (omega (arith, m.exists)) (m.one_parent, m.one_block))) (λ x. x)
 next_or_last r q n (Some i) e h = record {
   mate = record { exists = omega (arith, h.1); not_zero = omega (arith, h.0); one_parent = h.2.0; one_block = h.2.1 };
   later = omega (arith, h.0);
-  none_between = λ j m l. cases (less_or j i) (λ b. absurd (h.3 j (omega arith) b (m.one_parent, m.one_block))) (λ x. x);
+  none_between = λ j m l. cases (cases_lt j i) (λ b. absurd (h.3 j (omega arith) b (m.one_parent, m.one_block))) (λ x. x);
 }
 
 -- a copy with none below it that is like it is the first of its group
@@ -26,7 +27,7 @@ first_where r q true l h = (
       absurd (omega (arith, k.2, f k.0 m)),
 )
 first_where r q false l h = (
-  λ _ j m. cases (less_or j q) (λ b. absurd (h.1 (j, omega (arith, m.not_zero), b, (m.one_parent, m.one_block)))) (λ x. x),
+  λ _ j m. cases (cases_lt j q) (λ b. absurd (h.1 (j, omega (arith, m.not_zero), b, (m.one_parent, m.one_block)))) (λ x. x),
   λ _. tt,
 )
 

@@ -1,6 +1,7 @@
 -- An edge of an ascending list, found by halving.
 use Rattle.std.proofs.Common.{◌≡◌, ℕ, zero, suc, ◌+◌, ◌-◌, ◌<◌, ◌≤◌, T, ◌↔◌, List, length, get_or, sym, ◌∙◌, subst, inl, inr, arith}
-use Rattle.model.proofs.Cases.{cases, same_or, less_or}
+use Rattle.std.proofs.lemmas.Bool.{cases_eq, cases_lt}
+use Rattle.model.proofs.Cases.{cases}
 use Rattle.formats.proofs.Pairs.{pair_at, at_pair}
 use Rattle.formats.specs.Runs.{no_run_edge, lists_edge, TailsAscend, HeadsAscend}
 use Rattle.records.specs.declared.kinds.RunEdge.{RunEdge}
@@ -31,12 +32,12 @@ module _ (es : List RunEdge) (tails : TailsAscend es) (heads : HeadsAscend es) w
       let a : tail_at k ≤ tail_at (suc k) = subst (λ i. tail_at i ≤ tail_at (suc k)) same (tails (suc k) (omega arith) l) in
       let b : tail_at k ≡ tail_at (suc k) → head_at k < head_at (suc k)
       = subst (λ i. tail_at i ≡ tail_at (suc k) → head_at i < head_at (suc k)) same (heads (suc k) (omega arith) l) in
-      cases (same_or (tail_at k) (tail_at (suc k))) (λ e. inr (e, b e)) (λ d. inl (omega (arith, a, d)))
+      cases (cases_eq (tail_at k) (tail_at (suc k))) (λ e. inr (e, b e)) (λ d. inl (omega (arith, a, d)))
 
   -- an edge comes before each that stands after it
   pub before_later : (j k : ℕ) → j < k → k < length es → Below es (tail_at k) (head_at k) j
   before_later j zero h l = absurd (omega arith)
-  before_later j (suc k) h l = cases (same_or j k)
+  before_later j (suc k) h l = cases (cases_eq j k)
       (λ e. subst (λ i. Below es (tail_at (suc k)) (head_at (suc k)) i) (sym e) (before_next k l))
       (λ d. below_through j k (before_later j k (omega (arith, d)) (omega arith)) (before_next k l))
 
@@ -56,7 +57,7 @@ module _ (es : List RunEdge) (tails : TailsAscend es) (heads : HeadsAscend es) w
     narrowed_low k n a h b = record {
       in_order = omega arith;
       in_list = n.in_list;
-      under = λ j l. cases (same_or j k) (λ e. subst (Below es u w) (sym e) b) (λ d. below_through j k (before_later j k (omega (arith, d)) (omega (arith, n.in_list))) b);
+      under = λ j l. cases (cases_eq j k) (λ e. subst (Below es u w) (sym e) b) (λ d. below_through j k (before_later j k (omega (arith, d)) (omega (arith, n.in_list))) b);
       over = n.over;
     }
 
@@ -65,7 +66,7 @@ module _ (es : List RunEdge) (tails : TailsAscend es) (heads : HeadsAscend es) w
       in_order = a;
       in_list = omega (arith, n.in_list);
       under = n.under;
-      over = λ j l m b. f (cases (same_or j k) (λ e. subst (Below es u w) e b) (λ d. below_through k j (before_later k j (omega (arith, d)) m) b));
+      over = λ j l m b. f (cases (cases_eq j k) (λ e. subst (Below es u w) e b) (λ d. below_through k j (before_later k j (omega (arith, d)) m) b));
     }
 
     -- where nothing is left between them, the edge stands there or nowhere
@@ -76,7 +77,7 @@ module _ (es : List RunEdge) (tails : TailsAscend es) (heads : HeadsAscend es) w
           let s = stands_so es u w t in
           let k = s.0 in
           let g : ¬ (Below es u w k) = never_below k s.1.1 s.1.2 in
-          p.1 (cases (less_or k low) (λ a. absurd (g (n.under k a))) λ a. cases (same_or k low)
+          p.1 (cases (cases_lt k low) (λ a. absurd (g (n.under k a))) λ a. cases (cases_eq k low)
           (λ e. subst (Stands es u w) e s.1)
           (λ d. absurd (n.over low h (omega (arith, s.1.0, d)) (subst (λ x. Below es x w low) s.1.1 (subst (λ y. Below es (tail_at k) y low) s.1.2 (before_later low k (omega (arith, d)) s.1.0)))))),
     )
