@@ -23,7 +23,11 @@ impl Inner<'_> {
     fn edges_keep(&self, row: &Row) -> bool
         ensures { T result ↔ ((x y : ℕ) → Edge (inner_spec self.now) x y → EdgeKeeps row.now (ends_at (inner_spec self.now) self.now.number) x y) }
     {
-        self.drawn.parts.edges.iter().all(|edge| self.edge_keeps(row, *edge))
+        self.drawn
+            .parts
+            .edges
+            .iter()
+            .all(|edge| self.edge_keeps(row, *edge))
     }
 
     /// Whether vertex `x`, if it is in the row, has the edges that it must have.
