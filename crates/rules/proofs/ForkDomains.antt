@@ -63,6 +63,3 @@ module _ (b : Inner) (row : Row) (held : (x : ℕ) → Holds row x ↔ Domain (i
         rule_so (inner_spec b) b.number row b.drawn.heads b.drawn.tails held low (heads_held b.drawn) (tails_held b.drawn) x h,
         rule_thus (inner_spec b) b.number row b.drawn.heads b.drawn.tails held low (heads_held b.drawn) (tails_held b.drawn) x h,
       )
-
-  pub empty_breaks : ((x : ℕ) → ¬ (Holds row x)) → ¬ (ForkDomain (inner_spec b) b.number)
-  empty_breaks f r = let x = r.not_empty in f x.0 ((held x.0).1 x.2)

@@ -9,6 +9,10 @@ use Rattle.graphs.specs.Rows.{Holds, vertices}
 use Rattle.graphs.specs.declared.row.Row.{Row}
 use Rattle.rules.proofs.Ranges.{listed_at, at_listed}
 
+-- a test that tells P tells Q, which says the same
+pub told : (r : Bool) {P Q : Type 0} → T r ↔ P → P ↔ Q → T r ↔ Q
+told r a b = ((λ t. b.0 (a.0 t)), λ q. a.1 (b.1 q))
+
 pub all_below : (r : Bool) (n : ℕ) (P : ℕ → Type 0) → T r ↔ ((k : ℕ) → 0 ≤ k → k < n → P k) → T r ↔ ((k : ℕ) → k < n → P k)
 all_below r n P w = ((λ t k l. w.0 t k (omega arith) l), λ f. w.1 (λ k z l. f k l))
 

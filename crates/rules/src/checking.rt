@@ -57,10 +57,10 @@ impl Drawn<'_> {
     }
 }
 
-impl<'a> Parts<'a> {
-    pub(crate) fn of(specification: &'a Specification) -> Self
-        ensures { parts_spec result ≡ spec_of specification.now }
-    {
+impl<'a> From<&'a Specification> for Parts<'a> {
+    ghost from_gives = { λ s r. parts_spec r ≡ spec_of s.now };
+
+    fn from(specification: &'a Specification) -> Self {
         let edges = specification.edges();
         let vertices = specification.vertices();
         let nests = specification.nests();
@@ -72,7 +72,9 @@ impl<'a> Parts<'a> {
             ends,
         }
     }
+}
 
+impl Parts<'_> {
     /// All checks of sealing, in their order.
     fn check(&self) -> Result<(), NestingFault>
         ensures { MatchResult result (λ _. Sealed (parts_spec self.now)) (λ f. Unsealed (parts_spec self.now) (nesting_fault f)) }
@@ -88,6 +90,6 @@ impl<'a> Parts<'a> {
 pub fn check(specification: &Specification) -> Result<(), NestingFault>
     ensures { MatchResult result (λ _. Sealed (spec_of specification.now)) (λ f. Unsealed (spec_of specification.now) (nesting_fault f)) }
 {
-    let parts = Parts::of(specification);
+    let parts = Parts::from(specification);
     parts.check()
 }

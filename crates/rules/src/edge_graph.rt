@@ -11,6 +11,6 @@ use graphs::graph::Graph;
 pub fn edge_graph(specification: &Specification) -> Graph
     ensures { (x y : ℕ) → Joins result x y ↔ Edge (spec_of specification.now) x y }
 {
-    let parts = Parts::of(specification);
+    let parts = Parts::from(specification);
     parts.graph()
 }

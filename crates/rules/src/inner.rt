@@ -13,12 +13,14 @@ pub struct Inner<'a> {
 }
 
 impl Inner<'_> {
+    /// The block's record.
     pub(crate) fn nest(&self) -> Nest
         ensures { result ≡ slice_index_or self.now.drawn.parts.nests.now self.now.number no_nest }
     {
         self.drawn.parts.nests[self.number]
     }
 
+    /// The block's source and sink.
     pub(crate) fn ends(&self) -> Ends
         ensures { result ≡ slice_index_or self.now.drawn.parts.ends.now self.now.number no_ends }
     {
