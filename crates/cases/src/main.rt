@@ -21,7 +21,7 @@ use formats::run_file::RunFile;
 use nesting::sealed::SealedSpecification;
 use std::alloc::Global;
 
-/// What came of a call, and whether the places are as they should be after it.
+/// What came of a call, and whether the places are as they should be after it; a failed case tells the one whatever the other is.
 #[derive(Clone, Copy)]
 struct Trial {
     outcome: Outcome,

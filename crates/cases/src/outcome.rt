@@ -1,8 +1,9 @@
-//! What comes of a file, as the table has it.
+//! What comes of a file.
 
 use formats::faults::Fault;
 use std::fmt;
 
+/// What comes of a file; each is printed as the table has it.
 #[derive(Clone, Copy)]
 pub enum Outcome {
     Sealed,

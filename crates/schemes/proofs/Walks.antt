@@ -63,17 +63,6 @@ pub record Walk (es : List SpecEdge) (x : ℕ) (seen : Row) : Type 0 where
   pub start : Holds seen x
   pub on_path : (k : ℕ) → Holds seen k → Path* (Listed es) x k
 
-pub walk_start : (es : List SpecEdge) (x : ℕ) (empty seen : Row) → x < vertices → ((y : ℕ) → Holds empty y → ⊥)
-    → ((y : ℕ) → Holds seen y ↔ (Holds empty y ⊎ ((y ≡ x) × (x < vertices)))) → Walk es x seen
-walk_start es x empty seen l none law =
-    record {
-      start = (law x).1 (inr (refl, l));
-      on_path = λ k m. elim ((law k).0 m) [
-        | inl a ↦ absurd (none k a)
-        | inr e ↦ subst (λ (v : ℕ). Path* (Listed es) x v) (sym e.0) here
-      ];
-    }
-
 -- a pass that marks nothing ends it: the marks are closed under every edge, so they hold the end of every path
 module _ (es : List SpecEdge) (x : ℕ) (seen seen' : Row) (w : Walk es x seen) (p : Passed es seen seen' false (length es)) where
   along : {y : ℕ} → Path* (Listed es) x y → Holds seen y
