@@ -1,4 +1,4 @@
-use std::alloc::{AllocError, AllocFailed};
+use std::alloc::AllocError;
 use std::io;
 
 /// Why the program ends with status 1.
@@ -18,12 +18,6 @@ pub enum Failure {
 
 impl From<AllocError> for Failure {
     fn from(_error: AllocError) -> Self {
-        Failure::Memory
-    }
-}
-
-impl<T: Drop> From<AllocFailed<T>> for Failure {
-    fn from(_error: AllocFailed<T>) -> Self {
         Failure::Memory
     }
 }

@@ -143,15 +143,11 @@ fn run_parts(sizes: [u16; 3], vertices: usize, blocks: usize) -> [Stretch; 6] {
 
 /// Which number the byte `at` belongs to, in a file with these parts.
 fn spot_of(parts: &[Stretch], at: usize) -> Option<Spot> {
-    let mut left = at.checked_sub(6)?;
-    for part in parts {
-        let taken = 2 * part.count as usize;
-        if left < taken {
-            return Some(part.spot(left / 2));
-        }
-        left -= taken;
-    }
-    None
+    let number = at.checked_sub(6)? / 2;
+    parts
+        .iter()
+        .flat_map(|part| (0..part.count as usize).map(|record| part.spot(record)))
+        .nth(number)
 }
 
 impl Form {

@@ -67,10 +67,7 @@ fn reach_asked(words: [&str; 4]) -> Option<Inquiry> {
 
 /// The argument at place `i`, or an empty word where there is none.
 fn word(arguments: &[String], i: usize) -> &str {
-    match arguments.get(i) {
-        Some(argument) => argument.as_str(),
-        None => "",
-    }
+    arguments.get(i).map_or("", |argument| argument.as_str())
 }
 
 /// What the arguments ask, or nothing where they are not as the usage text says.

@@ -112,8 +112,7 @@ impl<'a> RunWords<'a> {
 
     fn lacks_copy(self, copy: usize) -> Result<String, AllocError> {
         let this = self.copy(copy);
-        let blocks = self.lacked(copy)?;
-        let lacked = Listed(blocks.as_slice());
+        let lacked = Listed(self.lacked(copy)?);
         format!(in self.heap;
             "a copy has too few under it: {this} must have under it a copy of every block whose parent is its block, and there is none of block {lacked}"
         )
@@ -130,8 +129,7 @@ impl<'a> RunWords<'a> {
 
     fn repeated(self, step: usize) -> Result<String, AllocError> {
         let this = self.step(step);
-        let steps = self.twins(step)?;
-        let twins = Listed(steps.as_slice());
+        let twins = Listed(self.twins(step)?);
         format!(in self.heap;
             "a vertex has more than one step in a copy: {this} has the vertex and the copy of an earlier step; the steps with these two are {twins}"
         )
@@ -139,8 +137,7 @@ impl<'a> RunWords<'a> {
 
     fn missing_step(self, copy: usize) -> Result<String, AllocError> {
         let this = self.copy(copy);
-        let vertices = self.missed(copy)?;
-        let missed = Listed(vertices.as_slice());
+        let missed = Listed(self.missed(copy)?);
         format!(in self.heap;
             "a step is missing: {this} must have a step of every vertex at home in its block, and has none of vertex {missed}"
         )
@@ -157,8 +154,7 @@ impl<'a> RunWords<'a> {
 
     fn not_listed(self, step: usize) -> Result<String, AllocError> {
         let this = self.step(step);
-        let edges = self.leaving(step)?;
-        let leaving = Listed(edges.as_slice());
+        let leaving = Listed(self.leaving(step)?);
         format!(in self.heap;
             "a derived edge is not listed: from {this} an edge must lead, along an edge of the specification or to the next round of a loop, that is not among the listed edges from it (edges {leaving})"
         )

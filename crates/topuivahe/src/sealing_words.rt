@@ -41,10 +41,8 @@ impl SpecificationWords<'_> {
 
     fn whole(self) -> Result<String, AllocError> {
         let Ends { source, sink } = self.specification.ends_of(0);
-        let entries = self.entries()?;
-        let exits = self.exits()?;
-        let no_in = Listed(entries.as_slice());
-        let no_out = Listed(exits.as_slice());
+        let no_in = Listed(self.entries()?);
+        let no_out = Listed(self.exits()?);
         let rule =
             "its source must be the only vertex without an incoming edge, and its sink the only one without an outgoing edge";
         format!(in self.heap;
@@ -56,8 +54,7 @@ impl SpecificationWords<'_> {
     fn block(self, block: usize) -> Result<String, AllocError> {
         let Ends { source, sink } = self.specification.ends_of(block);
         let kind = kind_of(self.specification, block);
-        let domain = self.domain(block)?;
-        let inside = Listed(domain.as_slice());
+        let inside = Listed(self.domain(block)?);
         format!(in self.heap;
             "block {block}, a {kind} with source {source}, sink {sink} and the domain {{{inside}}}"
         )

@@ -42,10 +42,8 @@ impl SpecificationWords<'_> {
     }
 
     fn block_row(self, block: usize) -> Result<BlockRow, AllocError> {
-        let own = self.own(block)?;
-        let own = Listed(own.as_slice());
-        let domain = self.domain(block)?;
-        let domain = Listed(domain.as_slice());
+        let own = Listed(self.own(block)?);
+        let domain = Listed(self.domain(block)?);
         Ok(BlockRow {
             kind: kind_of(self.specification, block),
             parent: self.parent(block)?,

@@ -1,4 +1,4 @@
-use Rattle.std.proofs.Common.{◌≡◌, ℕ, ◌<◌, rules, subst, arith}
+use Rattle.std.proofs.Common.{◌≡◌, rules, arith}
 use Rattle.formats.specs.RunFiles.{run_of}
 use Rattle.records.proofs.Chains.{any_in_range}
 use Rattle.topuivahe.proofs.picks.has_copy.Goals as goal
