@@ -1,9 +1,8 @@
 -- A section's rows, each at its place, and pushed to a table one by one.
-use Rattle.std.proofs.Common.{◌≡◌, ℕ, ◌+◌, ◌<◌, ◌≤◌, Bool, true, cond, ltb, List, [], ◌∷◌, ◌++◌, map, length, get_or, ap, ◌∙◌, arith}
+use Rattle.std.proofs.Common.{◌≡◌, ℕ, ◌+◌, ◌<◌, ◌≤◌, List, [], ◌∷◌, ◌++◌, map, length, get_or, ap, ◌∙◌, arith, Result, Ok, Err, IsOk, OnOk, true, false, ◌↔◌}
 use Rattle.std.specs.List.{range_with_len}
 use Rattle.std.proofs.lemmas.List.FromFn.{length-map-range_with_len, get_or-map-range_with_len, map-range_with_len_more}
 use Rattle.std.proofs.lemmas.List.{get_or_past}
-use Rattle.std.proofs.lemmas.Bool.{lt-ltb}
 use Rattle.formats.specs.Sections.{stated, section}
 
 pub section_length : {R : Type 0} (made : ℕ → ℕ → R) (bytes : List ℕ) (base count : ℕ) → length (section made bytes base count) ≡ count
@@ -25,13 +24,13 @@ rows_as made r e =
     r ∙ rw (a, b, c)
 
 -- a table of `limit` places that holds the first i rows takes the next
-pub row_more : {R : Type 0} (row : ℕ → R) (i limit : ℕ) {len len' : ℕ} {pushed : Bool} {rows rows' : List R} {x : R}
+pub row_more : {R : Type 0} (row : ℕ → R) (i limit : ℕ) {len len' : ℕ} {rows rows' : List R} {x : R} (pushed : Result (Unit {0}) R)
     → len ≡ i → rows ≡ map row (range_with_len 0 i) → i < limit → x ≡ row i
-    → pushed ≡ ltb len limit → len' ≡ cond pushed (len + 1) len → rows' ≡ cond pushed (rows ++ (x ∷ [])) rows
+    → IsOk pushed ↔ (len < limit) → OnOk pushed ((len' ≡ len + 1) × (rows' ≡ rows ++ (x ∷ [])))
     → (len' ≡ i + 1) × (rows' ≡ map row (range_with_len 0 (i + 1)))
-row_more row i limit {len} {len'} {pushed} {rows} {rows'} {x} at_i so_far room next test grown held =
-    let taken : pushed ≡ true = test ∙ lt-ltb len limit (omega arith) in
-    let long : len' ≡ len + 1 = grown ∙ ap (λ b. cond b (len + 1) len) taken in
-    let more : rows' ≡ rows ++ (x ∷ []) = held ∙ ap (λ b. cond b (rows ++ (x ∷ [])) rows) taken in
+row_more row i limit (Ok u) at_i so_far room next fits taken =
     let m = map-range_with_len_more row 0 i i (omega arith) in
-    (omega arith, cc)
+    (omega (arith, taken.0), cc (taken.1, m))
+row_more row i limit (Err y) at_i so_far room next fits taken =
+    let no : false ≡ true = fits.1 (omega arith) in
+    cc

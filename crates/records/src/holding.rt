@@ -1,4 +1,4 @@
-ghost use Rattle.std.specs.Prelude.{◌≡◌, ◌+◌, ◌<◌, ◌≤◌, [], ◌∷◌, ◌++◌, MatchResult, slice_index_or};
+ghost use Rattle.std.specs.Prelude.{◌≡◌, ◌+◌, ◌<◌, ◌≤◌, [], ◌∷◌, ◌++◌, IfErr, IsOk, OnOk, slice_index_or, ◌↔◌};
 ghost use Rattle.records.specs.Tables.{kept};
 
 use crate::tables::Table;
@@ -34,7 +34,9 @@ impl<T: Copy, const N: usize> Table<T, N> {
 
     /// One item more; where the table is full, the item comes back and nothing changes.
     pub fn push(&mut self, x: T) -> Result<(), T>
-        ensures { MatchResult result (λ _. (self.old.len < N) × (self.new.len ≡ self.old.len + 1) × (kept self.new ≡ kept self.old ++ (x ∷ []))) (λ y. (N ≤ self.old.len) × (y ≡ x) × (self.new ≡ self.old)) }
+        ensures variant { IsOk result ↔ (self.old.len < N) }
+        ensures taken { OnOk result ((self.new.len ≡ self.old.len + 1) × (kept self.new ≡ kept self.old ++ (x ∷ []))) }
+        ensures full { IfErr result (λ y. (y ≡ x) × (self.new ≡ self.old)) }
     {
         let at = self.len;
         if at >= N {

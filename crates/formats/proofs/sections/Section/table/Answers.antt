@@ -7,5 +7,4 @@ use Rattle.formats.proofs.sections.Section.table.Goals as goal
 pub loop-i-preserved : goal.loop-i-preserved
 loop-i-preserved g c =
     let s = c.args.self in
-    let p = c.push.ensures in
-    row_more (stated g.R.Record.made s.bytes.now s.base s.count) c.loop-i.i g.row.N {rows' = kept c.push.new.self} c.loop-i.invariant.0 c.loop-i.invariant.1 (omega arith) c.at.ensures p.test p.len p.items
+    row_more (stated g.R.Record.made s.bytes.now s.base s.count) c.loop-i.i g.row.N {rows' = kept c.push.new.self} c.push.result c.loop-i.invariant.0 c.loop-i.invariant.1 (omega arith) c.at.ensures c.push.ensures.variant c.push.ensures.taken
