@@ -3,9 +3,9 @@ use Rattle.std.specs.Prelude.{◌≡◌, ℕ, ◌<◌, ◌⊎◌, ◌↔◌}
 use Rattle.std.specs.Coded.{×_prop, le_prop}
 use Rattle.std.proofs.Math.Nat.{ℕ_set}
 use Rattle.model.specs.Specifications.{Spec, Edge}
-use Rattle.graphs.specs.Graphs.{Joins}
+use Rattle.graphs.specs.Graphs.{Graph, Joins}
+use Rattle.graphs.specs.Grids.{Marks}
 use Rattle.graphs.specs.Rows.{Holds, Has}
-use Rattle.graphs.specs.Graphs.{Graph}
 
 -- the graph has the edges of the specification
 abbrev pub HasEdges : Spec → Graph → Type 0
@@ -13,7 +13,7 @@ HasEdges s g = (x y : ℕ) → Joins g x y ↔ Edge s x y
 
 -- that a graph has an edge is one fact
 pub joins_prop : (g : Graph) (x y : ℕ) → IsProp (Joins g x y)
-unfolding Joins Holds Has
+unfolding Marks Holds Has
 joins_prop g x y = ×_prop le_prop (×_prop le_prop (ℕ_set _ _))
 
 -- x is the sink and y the source of a loop numbered below k

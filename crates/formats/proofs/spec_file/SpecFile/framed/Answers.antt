@@ -7,4 +7,4 @@ use Rattle.formats.proofs.spec_file.SpecFile.framed.Goals as goal
 pub returns-in_err-vertices : goal.returns-in_err-vertices
 returns-in_err-vertices c =
     let p = err_from_is_err_and c.from_residual.result c.from_residual.ensures.1 in
-    rw (p.1, p.2) (by_head spec_format 2 (omega arith) c.in_err-vertices.field-0.0 c.in_err-vertices.ensures)
+    rw (p.1, p.2) (by_head spec_format _ (omega arith) c.in_err-vertices.field-0.0 c.in_err-vertices.ensures)
