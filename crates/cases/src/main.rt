@@ -35,7 +35,7 @@ fn sealed(heap: Global, places: &mut Places, numbers: &str) -> anyhow::Result<Tr
     let answer = places.take(file.as_slice());
     let outcome = match answer {
         Ok(()) => Outcome::Sealed,
-        Err(refusal) => Outcome::Refused(refusal.fault()),
+        Err(refusal) => Outcome::Refused(refusal.into()),
     };
     Ok(Trial {
         outcome,
@@ -53,7 +53,7 @@ fn conforms<'a>(
     let answer = check(specification, file, &mut place);
     let outcome = match answer {
         Ok(()) => Outcome::Conforms,
-        Err(refusal) => Outcome::Refused(refusal.fault()),
+        Err(refusal) => Outcome::Refused(refusal.into()),
     };
     Ok(Trial {
         outcome,

@@ -39,47 +39,23 @@ impl From<ReadingFault> for ConformanceFault {
     }
 }
 
+/// Layer, number and place.
 impl From<ConformanceFault> for Fault {
     ghost from_gives = { λ f r. r ≡ conformance_fault f };
 
-    /// Layer, number and place.
     fn from(fault: ConformanceFault) -> Self {
-        match fault {
-            ConformanceFault::Nesting(fault) => fault.fault(),
-            ConformanceFault::Astray { step } => Fault {
-                layer: 3,
-                number: 13,
-                place: step,
-            },
-            ConformanceFault::Repeated { step } => Fault {
-                layer: 3,
-                number: 14,
-                place: step,
-            },
-            ConformanceFault::MissingStep { copy } => Fault {
-                layer: 3,
-                number: 15,
-                place: copy,
-            },
-            ConformanceFault::NotDerived { edge } => Fault {
-                layer: 3,
-                number: 16,
-                place: edge,
-            },
-            ConformanceFault::NotListed { step } => Fault {
-                layer: 3,
-                number: 17,
-                place: step,
-            },
+        let (number, place) = match fault {
+            ConformanceFault::Nesting(fault) => return fault.into(),
+            ConformanceFault::Astray { step } => (13, step),
+            ConformanceFault::Repeated { step } => (14, step),
+            ConformanceFault::MissingStep { copy } => (15, copy),
+            ConformanceFault::NotDerived { edge } => (16, edge),
+            ConformanceFault::NotListed { step } => (17, step),
+        };
+        Fault {
+            layer: 3,
+            number,
+            place,
         }
-    }
-}
-
-impl ConformanceFault {
-    /// Layer, number and place.
-    pub fn fault(self) -> Fault
-        ensures { result ≡ conformance_fault self }
-    {
-        Fault::from(self)
     }
 }

@@ -13,5 +13,5 @@ mod links;
 mod listing;
 mod meetings;
 mod steps;
-mod trial;
+pub mod trial;
 mod trials;

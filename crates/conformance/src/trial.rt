@@ -3,7 +3,7 @@ use formats::specification::Specification;
 
 /// A run beside the specification that it is checked against.
 #[derive(Clone, Copy)]
-pub(crate) struct Trial<'a> {
-    pub(crate) specification: &'a Specification,
-    pub(crate) run: RunFile<'a>,
+pub struct Trial<'a> {
+    pub specification: &'a Specification,
+    pub run: RunFile<'a>,
 }

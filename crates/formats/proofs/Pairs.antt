@@ -1,14 +1,7 @@
 -- A record with a given pair of numbers, by its place in the list.
-use Rattle.std.proofs.Common.{◌≡◌, ℕ, zero, suc, ◌<◌, Bool, ◌&&◌, ◌||◌, T, eqb, List, [], ◌∷◌, length, get_or, refl, ap, inl, inr, arith, eqb→eq}
+use Rattle.std.proofs.Common.{◌≡◌, ℕ, zero, suc, ◌<◌, Bool, ◌&&◌, ◌||◌, T, eqb, List, [], ◌∷◌, length, get_or, inl, inr, arith, eqb→eq}
 use Rattle.model.proofs.Tests.{eq→eqb, and_so, and_thus, or_so, or_thus}
-use Rattle.records.specs.declared.kinds.SpecEdge.{SpecEdge}
 use Rattle.formats.specs.Pairs.{holds_pair}
-use Rattle.formats.specs.Specifications.{listed}
-
--- an edge of a specification is listed where some record of the list has its tail and head
-pub listed_pair : (es : List SpecEdge) (x y : ℕ) → listed es x y ≡ holds_pair (λ e. e.tail) (λ e. e.head) es x y
-listed_pair [] x y = refl
-listed_pair (e ∷ es) x y = ap (λ (b : Bool). (eqb e.tail x && eqb e.head y) || b) (listed_pair es x y)
 
 module _ {E : Type 0} (first second : E → ℕ) (d : E) where
   pub pair_at : (es : List E) (x y : ℕ) → T (holds_pair first second es x y) → (k : ℕ) × (k < length es) × (first (get_or es k d) ≡ x) × (second (get_or es k d) ≡ y)

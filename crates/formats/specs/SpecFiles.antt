@@ -1,7 +1,7 @@
 -- Specification files: where their numbers stand, what they state, and why one is refused.
 use Rattle.std.specs.Prelude.{◌≡◌, ℕ, ◌+◌, ◌*◌, List}
 use Rattle.records.specs.Kinds.{spec_edge_kind, vertex_kind, nest_kind, ends_kind}
-use Rattle.formats.specs.Files.{Format, SizesFitOf, BadSizeOf, FramedOf, AcceptedOf, RefusedOf}
+use Rattle.formats.specs.Files.{Format, FramedOf, AcceptedOf, RefusedOf}
 use Rattle.formats.specs.Sections.{Inside, Outside, section}
 use Rattle.formats.specs.Specifications.{made_edge, made_vertex, made_nest, made_ends}
 use Rattle.records.specs.Tables.{kept}
@@ -67,13 +67,6 @@ spec_format = record {
   base = edges_from;
   count = m_of;
 }
-
--- each size lies within its limits; the size numbered i is the first that does not, n being numbered 0, m 1 and b 2
-abbrev pub SizesFit : List ℕ → Type 0
-SizesFit bytes = SizesFitOf vertex_kind spec_edge_kind nest_kind bytes
-
-abbrev pub BadSize : List ℕ → ℕ → Type 0
-BadSize bytes i = BadSizeOf vertex_kind spec_edge_kind nest_kind bytes i
 
 -- sizes and length are right; the file is accepted; it is refused with this fault
 abbrev pub Framed : List ℕ → Type 0

@@ -1,6 +1,7 @@
 -- What a specification's four tables say, as a specification of the subject.
-use Rattle.std.specs.Prelude.{◌≡◌, ℕ, ◌<◌, ◌≤◌, Bool, false, ◌&&◌, ◌||◌, List, [], ◌∷◌, length, ◌==◌, slice_index_or}
+use Rattle.std.specs.Prelude.{◌≡◌, ℕ, ◌<◌, ◌≤◌, Bool, List, length, slice_index_or}
 use Rattle.model.specs.Specifications.{Spec}
+use Rattle.formats.specs.Pairs.{holds_pair}
 use Rattle.records.specs.declared.kinds.SpecEdge.{SpecEdge}
 use Rattle.records.specs.declared.kinds.Vertex.{Vertex}
 use Rattle.records.specs.declared.kinds.Nest.{Nest}
@@ -34,8 +35,7 @@ made_ends a b = record { source = a; sink = b }
 
 -- the edge from x to y stands in the list
 abbrev pub listed : List SpecEdge → ℕ → ℕ → Bool
-listed [] x y = false
-listed (e ∷ es) x y = (e.tail == x && e.head == y) || listed es x y
+listed es x y = holds_pair (λ e. e.tail) (λ e. e.head) es x y
 
 -- the specification with these edges, vertices, nests and ends, each numbered by its place in the list
 abbrev pub spec_from : List SpecEdge → List Vertex → List Nest → List Ends → Spec

@@ -39,6 +39,7 @@ pub enum ReadingFault {
     Order { at: usize },
 }
 
+/// Layer, number and place.
 impl From<ReadingFault> for Fault {
     ghost from_gives = { λ f r. r ≡ reading_fault f };
 
@@ -55,14 +56,5 @@ impl From<ReadingFault> for Fault {
             number,
             place,
         }
-    }
-}
-
-impl ReadingFault {
-    /// Layer, number and place.
-    pub fn fault(self) -> Fault
-        ensures { result ≡ reading_fault self }
-    {
-        Fault::from(self)
     }
 }

@@ -4,7 +4,7 @@ use Rattle.std.proofs.lemmas.List.{get_or_past}
 use Rattle.std.proofs.lemmas.Bool.{cases_eq, cases_lt}
 use Rattle.model.specs.Forests.{Falls}
 use Rattle.model.specs.Specifications.{InRanges}
-use Rattle.formats.proofs.Pairs.{listed_pair, pair_at, at_pair}
+use Rattle.formats.proofs.Pairs.{pair_at, at_pair}
 use Rattle.formats.specs.Specifications.{no_edge, no_nest, listed, spec_from, Sized, EdgesRanged, HomesRanged, WholeRanged, NestsRanged, EndsRanged}
 use Rattle.records.specs.declared.kinds.SpecEdge.{SpecEdge}
 use Rattle.records.specs.declared.kinds.Vertex.{Vertex}
@@ -20,10 +20,10 @@ falls_of ns w f = record { zero_parent = w.0; falls = λ k z. go k z (cases_lt k
 
 -- an edge is listed where it stands at some index
 pub listed_at : (es : List SpecEdge) (x y : ℕ) → T (listed es x y) → (i : ℕ) × (i < length es) × ((get_or es i no_edge).tail ≡ x) × ((get_or es i no_edge).head ≡ y)
-listed_at es x y t = pair_at (λ e. e.tail) (λ e. e.head) no_edge es x y (subst T (listed_pair es x y) t)
+listed_at es x y t = pair_at (λ e. e.tail) (λ e. e.head) no_edge es x y t
 
 pub at_listed : (es : List SpecEdge) (i : ℕ) → i < length es → T (listed es (get_or es i no_edge).tail (get_or es i no_edge).head)
-at_listed es i h = subst T (sym (listed_pair es _ _)) (at_pair (λ e. e.tail) (λ e. e.head) no_edge es _ _ i h refl refl)
+at_listed es i h = at_pair (λ e. e.tail) (λ e. e.head) no_edge es _ _ i h refl refl
 
 kind_of : {k : ℕ} → 1 ≤ k → k ≤ 2 → (k ≡ 1) ⊎ (k ≡ 2)
 kind_of {k} a b = elim (cases_eq k 1) [ inl e ↦ inl e | inr n ↦ inr (omega (arith, n)) ]

@@ -33,12 +33,13 @@ impl From<ReadingFault> for NestingFault {
     }
 }
 
+/// Layer, number and place.
 impl From<NestingFault> for Fault {
     ghost from_gives = { λ f r. r ≡ nesting_fault f };
 
     fn from(fault: NestingFault) -> Self {
         let (number, place) = match fault {
-            NestingFault::Reading(fault) => return fault.fault(),
+            NestingFault::Reading(fault) => return fault.into(),
             NestingFault::Cycle { vertex } => (6, vertex),
             NestingFault::WholeEnds => (7, 0),
             NestingFault::LoopRule { block } => (8, block),
@@ -52,14 +53,5 @@ impl From<NestingFault> for Fault {
             number,
             place,
         }
-    }
-}
-
-impl NestingFault {
-    /// Layer, number and place.
-    pub fn fault(self) -> Fault
-        ensures { result ≡ nesting_fault self }
-    {
-        Fault::from(self)
     }
 }

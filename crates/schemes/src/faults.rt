@@ -43,12 +43,3 @@ impl From<SchemeFault> for Fault {
         }
     }
 }
-
-impl SchemeFault {
-    /// Layer, number and place.
-    pub fn fault(self) -> Fault
-        ensures { result ≡ scheme_fault self }
-    {
-        Fault::from(self)
-    }
-}

@@ -2,20 +2,14 @@
 use Rattle.std.specs.Prelude.{◌≡◌, ℕ, ◌<◌, length, slice_index_or}
 use Rattle.model.specs.Specifications.{Spec, Edge}
 use Rattle.model.specs.Runs.{Run}
-use Rattle.formats.specs.Of.{spec_of}
 use Rattle.formats.specs.Runs.{no_run_edge}
-use Rattle.formats.specs.RunFiles.{run_of, run_edges_of}
+use Rattle.formats.specs.RunFiles.{run_edges_of}
 use Rattle.nesting.specs.Copies.{Under}
-use Rattle.topuivahe.specs.declared.picks.Opened.{Opened}
-
-abbrev pub opened_spec : Opened → Spec
-opened_spec o = spec_of o.specification.now
-
-abbrev pub opened_run : Opened → Run
-opened_run o = run_of o.run.bytes.now
+use Rattle.conformance.specs.Trials.{trial_spec, trial_run}
+use Rattle.conformance.specs.declared.trial.Trial.{Trial}
 
 -- how many edges the run lists
-abbrev pub edge_count : Opened → ℕ
+abbrev pub edge_count : Trial → ℕ
 edge_count o = length (run_edges_of o.run.bytes.now)
 
 -- copy i has a step of vertex x
@@ -23,35 +17,35 @@ abbrev pub HasStep : Run → ℕ → ℕ → Type 0
 HasStep r i x = (u : ℕ) × (u < r.v) × (r.context u ≡ i) × (r.origin u ≡ x)
 
 -- the edge at index k goes along an edge of the specification
-abbrev pub GoesAlong : Opened → ℕ → Type 0
+abbrev pub GoesAlong : Trial → ℕ → Type 0
 GoesAlong o k =
     let e = slice_index_or (run_edges_of o.run.bytes.now) k no_run_edge in
-    Edge (opened_spec o) ((opened_run o).origin e.tail) ((opened_run o).origin e.head)
+    Edge (trial_spec o) ((trial_run o).origin e.tail) ((trial_run o).origin e.head)
 
 -- copy j stands directly under copy i
-abbrev pub Inner : Opened → ℕ → ℕ → Type 0
-Inner o i j = (0 < j) × ((opened_run o).parent j ≡ i)
+abbrev pub Inner : Trial → ℕ → ℕ → Type 0
+Inner o i j = (0 < j) × ((trial_run o).parent j ≡ i)
 
 -- copy j, other than copy 0, has the parent and the block of copy i
-abbrev pub Group : Opened → ℕ → ℕ → Type 0
-Group o i j = (0 < j) × ((opened_run o).parent j ≡ (opened_run o).parent i) × ((opened_run o).block j ≡ (opened_run o).block i)
+abbrev pub Group : Trial → ℕ → ℕ → Type 0
+Group o i j = (0 < j) × ((trial_run o).parent j ≡ (trial_run o).parent i) × ((trial_run o).block j ≡ (trial_run o).block i)
 
 -- step u belongs to copy i
-abbrev pub StepOf : Opened → ℕ → ℕ → Type 0
-StepOf o i u = (opened_run o).context u ≡ i
+abbrev pub StepOf : Trial → ℕ → ℕ → Type 0
+StepOf o i u = (trial_run o).context u ≡ i
 
 -- step u has the context and the origin of step w
-abbrev pub Twin : Opened → ℕ → ℕ → Type 0
-Twin o w u = ((opened_run o).context u ≡ (opened_run o).context w) × ((opened_run o).origin u ≡ (opened_run o).origin w)
+abbrev pub Twin : Trial → ℕ → ℕ → Type 0
+Twin o w u = ((trial_run o).context u ≡ (trial_run o).context w) × ((trial_run o).origin u ≡ (trial_run o).origin w)
 
 -- the edge at index k leads from step u
-abbrev pub Leaves : Opened → ℕ → ℕ → Type 0
+abbrev pub Leaves : Trial → ℕ → ℕ → Type 0
 Leaves o u k = (slice_index_or (run_edges_of o.run.bytes.now) k no_run_edge).tail ≡ u
 
 -- block k is nested directly in the block of copy i, and has no copy under it
-abbrev pub Lacked : Opened → ℕ → ℕ → Type 0
-Lacked o i k = (0 < k) × ((opened_spec o).above k ≡ (opened_run o).block i) × (¬ (Under (opened_run o) i k))
+abbrev pub Lacked : Trial → ℕ → ℕ → Type 0
+Lacked o i k = (0 < k) × ((trial_spec o).above k ≡ (trial_run o).block i) × (¬ (Under (trial_run o) i k))
 
 -- vertex x is at home in the block of copy i, which has no step of it
-abbrev pub Missed : Opened → ℕ → ℕ → Type 0
-Missed o i x = ((opened_spec o).home x ≡ (opened_run o).block i) × (¬ (HasStep (opened_run o) i x))
+abbrev pub Missed : Trial → ℕ → ℕ → Type 0
+Missed o i x = ((trial_spec o).home x ≡ (trial_run o).block i) × (¬ (HasStep (trial_run o) i x))

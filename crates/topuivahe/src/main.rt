@@ -22,9 +22,10 @@ use crate::account::{Account, report, run_report};
 use crate::failure::Failure;
 use crate::file::File;
 use crate::members::SpecificationWords;
-use crate::picks::{Opened, RunWords};
+use crate::picks::RunWords;
 use crate::reach::{Inquiry, Kind, Question, reach};
 use conformance::checking::check as check_conforms;
+use conformance::trial::Trial;
 use formats::run_file::RunFile;
 use formats::specification::Specification;
 use nesting::sealed::SealedSpecification;
@@ -166,7 +167,7 @@ fn check_run(
     let verdict = check_conforms(sealed, bytes, &mut run);
     let words = RunWords {
         heap: rt.alloc(),
-        opened: Opened {
+        opened: Trial {
             specification: sealed.specification(),
             run,
         },

@@ -1,30 +1,24 @@
 ghost use Rattle.std.specs.Prelude.{◌≡◌, ◌<◌, T, ◌↔◌, IfOk};
 ghost use Rattle.formats.specs.RunFiles.{run_of};
-ghost use Rattle.nesting.specs.Copies.{Under};
+ghost use Rattle.conformance.specs.Trials.{trial_spec, trial_run};
 ghost use Rattle.topuivahe.specs.Listings.{Lists};
-ghost use Rattle.topuivahe.specs.Picks.{opened_spec, opened_run, edge_count, HasStep, GoesAlong, Inner, Group, StepOf, Twin, Leaves, Lacked, Missed};
+ghost use Rattle.topuivahe.specs.Picks.{edge_count, HasStep, GoesAlong, Inner, Group, StepOf, Twin, Leaves, Lacked, Missed};
 
 use crate::members::has_edge;
+use conformance::trial::Trial;
 use formats::run_file::RunFile;
-use formats::specification::Specification;
+use nesting::copies::has_under;
 use std::alloc::{AllocError, Global};
-
-/// A run that was opened, beside the specification that it is checked against.
-#[derive(Clone, Copy)]
-pub struct Opened<'a> {
-    pub specification: &'a Specification,
-    pub run: RunFile<'a>,
-}
 
 /// An opened run that there are words for, and the heap on which they are made.
 #[derive(Clone, Copy)]
 pub struct RunWords<'a> {
     pub heap: Global,
-    pub opened: Opened<'a>,
+    pub opened: Trial<'a>,
 }
 
 /// Whether the edge at index `k` goes along an edge of the specification.
-fn goes_along(opened: Opened, k: usize) -> bool
+fn goes_along(opened: Trial, k: usize) -> bool
     ensures { T result ↔ GoesAlong opened.entry k }
 {
     let edge = opened.run.edge(k);
@@ -38,20 +32,10 @@ fn goes_along(opened: Opened, k: usize) -> bool
 }
 
 /// Whether the edge at index `k` leads from step `u`.
-fn leaves(opened: Opened, u: usize, k: usize) -> bool
+fn leaves(opened: Trial, u: usize, k: usize) -> bool
     ensures { T result ↔ Leaves opened.entry u k }
 {
     opened.run.edge(k).tail as usize == u
-}
-
-/// Whether a copy of block `k` stands directly under copy `i`.
-fn has_copy(run: RunFile, i: usize, k: usize) -> bool
-    ensures { T result ↔ Under (run_of run.entry.bytes.now) i k }
-{
-    (1..run.copies()).any(|j| {
-        let copy = run.copy(j);
-        copy.parent as usize == i && copy.block as usize == k
-    })
 }
 
 /// Whether copy `i` has a step of vertex `x`.
@@ -67,7 +51,7 @@ fn has_step(run: RunFile, i: usize, x: usize) -> bool
 impl RunWords<'_> {
     /// The copies directly under the copy, ascending.
     pub fn inner(self, copy: usize) -> Result<Vec<usize>, AllocError>
-        ensures { IfOk result (λ v. Lists (Inner self.entry.opened copy) (opened_run self.entry.opened).c v.items) }
+        ensures { IfOk result (λ v. Lists (Inner self.entry.opened copy) (trial_run self.entry.opened).c v.items) }
     {
         let run = self.opened.run;
         (0..run.copies())
@@ -77,7 +61,7 @@ impl RunWords<'_> {
 
     /// The copies with the parent and the block of the copy, ascending.
     pub fn group(self, copy: usize) -> Result<Vec<usize>, AllocError>
-        ensures { IfOk result (λ v. Lists (Group self.entry.opened copy) (opened_run self.entry.opened).c v.items) }
+        ensures { IfOk result (λ v. Lists (Group self.entry.opened copy) (trial_run self.entry.opened).c v.items) }
     {
         let run = self.opened.run;
         let this = run.copy(copy);
@@ -91,7 +75,7 @@ impl RunWords<'_> {
 
     /// The steps of the copy, ascending.
     pub fn steps(self, copy: usize) -> Result<Vec<usize>, AllocError>
-        ensures { IfOk result (λ v. Lists (StepOf self.entry.opened copy) (opened_run self.entry.opened).v v.items) }
+        ensures { IfOk result (λ v. Lists (StepOf self.entry.opened copy) (trial_run self.entry.opened).v v.items) }
     {
         let run = self.opened.run;
         (0..run.steps())
@@ -101,7 +85,7 @@ impl RunWords<'_> {
 
     /// The steps with the context and the origin of the step, ascending.
     pub fn twins(self, step: usize) -> Result<Vec<usize>, AllocError>
-        ensures { IfOk result (λ v. Lists (Twin self.entry.opened step) (opened_run self.entry.opened).v v.items) }
+        ensures { IfOk result (λ v. Lists (Twin self.entry.opened step) (trial_run self.entry.opened).v v.items) }
     {
         let run = self.opened.run;
         let this = run.step(step);
@@ -135,22 +119,22 @@ impl RunWords<'_> {
 
     /// The blocks nested directly in the block of the copy that have no copy under it, ascending.
     pub fn lacked(self, copy: usize) -> Result<Vec<usize>, AllocError>
-        ensures { IfOk result (λ v. Lists (Lacked self.entry.opened copy) (opened_spec self.entry.opened).b v.items) }
+        ensures { IfOk result (λ v. Lists (Lacked self.entry.opened copy) (trial_spec self.entry.opened).b v.items) }
     {
-        let Opened { specification, run } = self.opened;
+        let Trial { specification, run } = self.opened;
         let block = run.copy(copy).block;
         (0..specification.nests().len())
             .filter(|&k| {
-                k > 0 && specification.nest(k).parent == block && !has_copy(run, copy, k)
+                k > 0 && specification.nest(k).parent == block && !has_under(run, copy, k)
             })
             .collect(self.heap)
     }
 
     /// The vertices at home in the block of the copy that have no step there, ascending.
     pub fn missed(self, copy: usize) -> Result<Vec<usize>, AllocError>
-        ensures { IfOk result (λ v. Lists (Missed self.entry.opened copy) (opened_spec self.entry.opened).n v.items) }
+        ensures { IfOk result (λ v. Lists (Missed self.entry.opened copy) (trial_spec self.entry.opened).n v.items) }
     {
-        let Opened { specification, run } = self.opened;
+        let Trial { specification, run } = self.opened;
         let block = run.copy(copy).block;
         (0..specification.vertices().len())
             .filter(|&x| specification.vertex(x).home == block && !has_step(run, copy, x))

@@ -79,7 +79,7 @@ fn no_vertex(
 ) -> Result<Refusal, AllocError> {
     let last = vertices.saturating_sub(1);
     Ok(Refusal {
-        fault: refused.fault(),
+        fault: refused.into(),
         words: format!(in heap;
             "{vertex} is no vertex of the specification, whose vertices are 0 to {last}"
         )?,

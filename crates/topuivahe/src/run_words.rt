@@ -1,10 +1,11 @@
 use crate::forms::Form;
 use crate::lists::Listed;
 use crate::members::kind_of;
-use crate::picks::{Opened, RunWords};
+use crate::picks::RunWords;
 use crate::reading_words::ReadingWords;
 use crate::refusal::Refusal;
 use conformance::faults::ConformanceFault;
+use conformance::trial::Trial;
 use formats::faults::ReadingFault;
 use records::kinds::{RunCopy, RunEdge, Step};
 use rules::faults::NestingFault;
@@ -14,7 +15,7 @@ use std::fmt;
 /// A copy, printed in words.
 #[derive(Clone, Copy)]
 struct CopyWords<'a> {
-    opened: Opened<'a>,
+    opened: Trial<'a>,
     copy: usize,
 }
 
@@ -37,7 +38,7 @@ impl fmt::Display for CopyWords<'_> {
 /// A step, printed in words.
 #[derive(Clone, Copy)]
 struct StepWords<'a> {
-    opened: Opened<'a>,
+    opened: Trial<'a>,
     step: usize,
 }
 
@@ -71,7 +72,7 @@ impl<'a> RunWords<'a> {
     /// The refusal of the run, which was read from these bytes, for that fault.
     pub fn refusal(self, fault: ConformanceFault, bytes: &[u8]) -> Result<Refusal, AllocError> {
         Ok(Refusal {
-            fault: fault.fault(),
+            fault: fault.into(),
             words: self.broken(fault, bytes)?,
         })
     }

@@ -11,7 +11,7 @@ impl SpecificationWords<'_> {
     /// The refusal of the specification, which was read from these bytes, for that fault.
     pub fn refusal(self, fault: NestingFault, bytes: &[u8]) -> Result<Refusal, AllocError> {
         Ok(Refusal {
-            fault: fault.fault(),
+            fault: fault.into(),
             words: self.broken(fault, bytes)?,
         })
     }
