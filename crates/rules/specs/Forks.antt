@@ -26,8 +26,8 @@ EndAt s k x z = Domain s k x ⊎ ((s.kind k ≡ 1) × (x ≡ z))
 abbrev pub ForksAbove : Spec → ℕ → ℕ → Type 0
 ForksAbove s k x = (j : ℕ) → 0 < j → j < s.b → s.kind j ≡ 1 → Domain s j x → Chain s.above k j
 
--- The row keeps the rule of forks in the place of the domain of block k: neither source nor sink is in it, each of its vertices has an edge into it and one out of it,
--- edges keep to it, and edges within it connect x with each of its vertices.
+-- The row keeps the rule of forks in the place of the domain of block k: neither source nor sink is in it, each of its vertices has an edge
+-- into it and one out of it, edges keep to it, and edges within it connect x with each of its vertices.
 pub record ForkRow (s : Spec) (k : ℕ) (row heads tails : Row) (x : ℕ) : Type 0 where
   pub source_off : ¬ (Holds row (s.source k))
   pub sink_off : ¬ (Holds row (s.sink k))

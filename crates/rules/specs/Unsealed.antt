@@ -30,3 +30,7 @@ pub data Unsealed (s : Spec) : Fault → Type 0 where
   breaks_loop : {k : ℕ} → Acyclic s → HasWholeEnds s → 0 < k → k < s.b → PassedBelow s k → s.kind k ≡ 2 → (¬ (KeepsLoopRule s k)) → Unsealed s (record { layer = 2; number = 8; place = k })
   breaks_fork : {k : ℕ} → Acyclic s → HasWholeEnds s → 0 < k → k < s.b → PassedBelow s k → s.kind k ≡ 1 → (¬ (KeepsForkRule s k)) → Unsealed s (record { layer = 2; number = 9; place = k })
   same_domain : {k : ℕ} → Acyclic s → HasWholeEnds s → 0 < k → k < s.b → PassedBelow s k → KeepsRule s k → (¬ (Distinct s k)) → Unsealed s (record { layer = 2; number = 10; place = k })
+
+-- where all checks before those of block k pass, the specification is not sealed, and f is why
+abbrev pub UnsealedAt : Spec → ℕ → Fault → Type 0
+UnsealedAt s k f = Acyclic s → HasWholeEnds s → PassedBelow s k → Unsealed s f

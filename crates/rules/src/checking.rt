@@ -4,7 +4,7 @@ ghost use Rattle.formats.specs.Of.{spec_of};
 ghost use Rattle.rules.specs.Blocks.{drawn_spec, inner_spec};
 ghost use Rattle.rules.specs.Faults.{nesting_fault};
 ghost use Rattle.rules.specs.Parts.{parts_spec};
-ghost use Rattle.rules.specs.Unsealed.{KeepsRule, Passes, PassedBelow, Unsealed};
+ghost use Rattle.rules.specs.Unsealed.{KeepsRule, Passes, PassedBelow, Unsealed, UnsealedAt};
 
 use crate::drawn::Drawn;
 use crate::faults::NestingFault;
@@ -16,7 +16,7 @@ use records::kinds::BlockKind;
 impl Inner<'_> {
     /// The rule of the block's kind.
     fn check_rule(&self) -> Result<(), NestingFault>
-        ensures { MatchResult result (λ _. KeepsRule (inner_spec self.now) self.now.number) (λ f. Acyclic (inner_spec self.now) → HasWholeEnds (inner_spec self.now) → PassedBelow (inner_spec self.now) self.now.number → Unsealed (inner_spec self.now) (nesting_fault f)) }
+        ensures { MatchResult result (λ _. KeepsRule (inner_spec self.now) self.now.number) (λ f. UnsealedAt (inner_spec self.now) self.now.number (nesting_fault f)) }
     {
         let block = self.number;
         match self.nest().block_kind() {
@@ -28,7 +28,7 @@ impl Inner<'_> {
 
     /// The checks of the block.
     fn check(&self) -> Result<(), NestingFault>
-        ensures { MatchResult result (λ _. Passes (inner_spec self.now) self.now.number) (λ f. Acyclic (inner_spec self.now) → HasWholeEnds (inner_spec self.now) → PassedBelow (inner_spec self.now) self.now.number → Unsealed (inner_spec self.now) (nesting_fault f)) }
+        ensures { MatchResult result (λ _. Passes (inner_spec self.now) self.now.number) (λ f. UnsealedAt (inner_spec self.now) self.now.number (nesting_fault f)) }
     {
         self.check_rule()?;
         if !self.distinct() {
