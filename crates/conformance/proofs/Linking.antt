@@ -5,7 +5,7 @@ use Rattle.model.proofs.Cases.{cases, same_or}
 use Rattle.graphs.specs.Graphs.{Joins}
 use Rattle.graphs.specs.Rows.{vertices}
 use Rattle.graphs.specs.declared.graph.Graph.{Graph}
-use Rattle.conformance.specs.Links.{HasEdges, TurnsBelow, LinkedBelow}
+use Rattle.conformance.specs.Links.{TurnsBelow, LinkedBelow}
 
 module _ (s : Spec) (g : Graph) where
   wider : (k : ℕ) {x y : ℕ} → TurnsBelow s k x y → TurnsBelow s (k + 1) x y
