@@ -5,7 +5,7 @@ use Rattle.model.specs.Runs.{Lasts, Firsts, Placed, Plain, Back}
 use Rattle.model.specs.Specifications.{Edge}
 use Rattle.model.proofs.Cases.{cases}
 use Rattle.model.proofs.Chains.{chain_le}
-use Rattle.model.proofs.Meetings.{meets_flip, meets_left, meets_right, plain_meets, back_meets}
+use Rattle.model.proofs.Meetings.{meets_left, meets_right, plain_meets, back_meets}
 use Rattle.conformance.specs.Deriving.{ByGroup, StepsMeet, Turns, Under}
 use Rattle.conformance.specs.Trials.{trial_run, trial_spec}
 use Rattle.conformance.specs.declared.meetings.Meeting.{Meeting}

@@ -5,7 +5,7 @@ use Rattle.std.proofs.lemmas.Bool.{cases_eq}
 use Rattle.model.proofs.Cases.{cases}
 use Rattle.graphs.specs.Graphs.{Graph, Joins}
 use Rattle.graphs.specs.Rows.{vertices}
-use Rattle.conformance.specs.Links.{HasEdges, TurnsBelow, LinkedBelow}
+use Rattle.conformance.specs.Links.{TurnsBelow, LinkedBelow}
 
 module _ (s : Spec) (g : Graph) where
   wider : (k : ℕ) {x y : ℕ} → TurnsBelow s k x y → TurnsBelow s (k + 1) x y

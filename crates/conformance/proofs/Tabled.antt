@@ -3,7 +3,6 @@ use Rattle.std.proofs.Common.{ℕ, ◌<◌, ◌≤◌, refl, arith}
 use Rattle.formats.specs.Of.{spec_of}
 use Rattle.formats.specs.declared.specification.Specification.{Specification}
 use Rattle.records.specs.Tables.{kept}
-use Rattle.records.specs.Kinds.{nest_kind}
 use Rattle.graphs.specs.Rows.{vertices}
 use Rattle.rules.proofs.PartsOf.{few_of}
 

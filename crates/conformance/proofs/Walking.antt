@@ -1,5 +1,5 @@
 -- Two copies go up until they meet.
-use Rattle.std.proofs.Common.{◌≡◌, ℕ, ◌+◌, ◌<◌, ◌⊎◌, sym, refl, inl, inr, arith}
+use Rattle.std.proofs.Common.{◌≡◌, ℕ, ◌<◌, ◌⊎◌, sym, refl, inl, inr, arith}
 use Rattle.model.specs.Forests.{Chain, stop, up, Falls}
 use Rattle.model.proofs.Cases.{cases}
 use Rattle.model.proofs.Chains.{chain_eq, chain_join}

@@ -1,5 +1,5 @@
 -- What the check of derived edges asks of copies and steps.
-use Rattle.std.specs.Prelude.{◌≡◌, ℕ, ◌<◌, ◌≢◌, ◌↔◌}
+use Rattle.std.specs.Prelude.{◌≡◌, ℕ, ◌<◌, ◌≢◌}
 use Rattle.model.specs.Forests.{Chain}
 use Rattle.model.specs.Meetings.{Meets}
 use Rattle.model.specs.Runs.{Run, Next, First as IsFirst, Last as IsLast}

@@ -17,7 +17,7 @@ pub record GroupPlace (r : Run) (q : ℕ) (place : Place) : Type 0 where
   pub next_told : NextOrLast r q place.next
   pub first_told : T place.first ↔ First r q
 
--- the last place of a group of one: what a table is read as beyond its end
+-- no next copy, and not the first: what a table is read as beyond its end
 abbrev pub no_place : Place
 no_place = record { next = None; first = false }
 

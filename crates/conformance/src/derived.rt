@@ -11,6 +11,7 @@ use crate::group_table::Place;
 use crate::meetings::Meeting;
 
 /// An end of a loop's group: the copy that ran first, or the one that ran last.
+// An enum and no closure: so one clause can say what it is to stand at either end.
 #[derive(Clone, Copy)]
 enum End {
     First,

@@ -1,4 +1,3 @@
-use Rattle.graphs.specs.Graphs.{Joins}
 use Rattle.conformance.specs.Trials.{trial_run}
 use Rattle.conformance.proofs.derivation.Derivation.has_edge.Goals as goal
 
