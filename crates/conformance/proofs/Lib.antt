@@ -10,5 +10,4 @@ pub mod Marking
 pub mod Decided
 pub mod Deriving
 pub mod Kept
-pub mod Ranges
 pub mod Checked

@@ -8,7 +8,7 @@ use rules::faults::NestingFault;
 
 /// Why a run does not conform to a specification. Each variant carries its place, and a fault of nesting, or of reading within it, is
 /// carried whole.
-#[derive(Clone, Copy)]
+#[derive(Clone, Copy, Debug, PartialEq, Eq)]
 pub enum ConformanceFault {
     Nesting(NestingFault),
     /// The origin of `step` is not at home in the block of its context; no lower step has such an origin.

@@ -6,7 +6,7 @@ use formats::faults::{Fault, ReadingFault};
 
 /// Why a specification is not sealed, or the copies of a run are not nested as its blocks are. Each variant carries its place, and a fault
 /// of reading is carried whole.
-#[derive(Clone, Copy)]
+#[derive(Clone, Copy, Debug, PartialEq, Eq)]
 pub enum NestingFault {
     Reading(ReadingFault),
     /// A path leads from `vertex` back to it; no lower vertex has one.

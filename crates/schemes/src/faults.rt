@@ -4,14 +4,14 @@ ghost use Rattle.schemes.specs.Faults.{scheme_fault, which_place};
 use formats::faults::Fault;
 
 /// Which of the two that a question names.
-#[derive(Clone, Copy)]
+#[derive(Clone, Copy, Debug, PartialEq, Eq)]
 pub enum Which {
     First,
     Second,
 }
 
 /// Why a scheme refuses a question.
-#[derive(Clone, Copy)]
+#[derive(Clone, Copy, Debug, PartialEq, Eq)]
 pub enum SchemeFault {
     /// That one of the two is no vertex of the specification that was learnt; where it is the second, the first is one.
     NoVertex { which: Which },
