@@ -1,5 +1,5 @@
 -- A record with a given pair of numbers, by its place in the list.
-use Rattle.std.proofs.Common.{◌≡◌, ℕ, zero, suc, ◌<◌, Bool, ◌&&◌, ◌||◌, T, eqb, List, [], ◌∷◌, length, get_or, inl, inr, arith, eqb→eq}
+use Rattle.std.proofs.Common.{◌≡◌, ℕ, zero, suc, ◌<◌, ◌&&◌, T, eqb, List, [], ◌∷◌, length, get_or, inl, inr, arith, eqb→eq}
 use Rattle.model.proofs.Tests.{eq→eqb, and_so, and_thus, or_so, or_thus}
 use Rattle.formats.specs.Pairs.{holds_pair}
 

@@ -1,6 +1,6 @@
 -- Which copies, steps, edges, blocks or vertices of an opened run and its specification are meant.
 use Rattle.std.specs.Prelude.{◌≡◌, ℕ, ◌<◌, length, slice_index_or}
-use Rattle.model.specs.Specifications.{Spec, Edge}
+use Rattle.model.specs.Specifications.{Edge}
 use Rattle.model.specs.Runs.{Run}
 use Rattle.formats.specs.Runs.{no_run_edge}
 use Rattle.formats.specs.RunFiles.{run_edges_of}
