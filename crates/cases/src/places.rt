@@ -19,6 +19,7 @@ pub struct Before {
 }
 
 /// Whether two specifications have the same records.
+/// Slice by slice: a specification also has places that are not taken, which do not count.
 fn same(a: &Specification, b: &Specification) -> bool {
     a.edges() == b.edges()
         && a.vertices() == b.vertices()

@@ -11,7 +11,6 @@ use crate::derivation::Derivation;
 use crate::faults::ConformanceFault;
 use crate::trial::Trial;
 use formats::run_file::RunFile;
-use graphs::grid::Grid;
 use nesting::copies::check_copies;
 use nesting::sealed::SealedSpecification;
 
@@ -39,10 +38,10 @@ impl Trial<'_> {
         if let Some(step) = self.astray() {
             return Err(ConformanceFault::Astray { step });
         }
-        let mut grid = Grid::new();
-        if let Some(step) = self.repeated(&mut grid) {
-            return Err(ConformanceFault::Repeated { step });
-        }
+        let grid = match self.marked() {
+            Ok(grid) => grid,
+            Err(step) => return Err(ConformanceFault::Repeated { step }),
+        };
         if let Some(copy) = self.short_of(&grid) {
             return Err(ConformanceFault::MissingStep { copy });
         }

@@ -127,7 +127,7 @@ impl Derivation<'_> {
             && self.last_to_first(u, w, meeting.left, meeting.right)
     }
 
-    /// Whether the edge from step `u` to step `w` is derived.
+    /// Whether the edge from step `u` to step `w` is derived. (Two numbers, here and below, as the model takes them.)
     pub(crate) fn derived(&self, u: usize, w: usize) -> bool
         requires { (u < (trial_run self.now.trial).v) × (w < (trial_run self.now.trial).v) }
         ensures { T result ↔ Derived (trial_spec self.now.trial) (trial_run self.now.trial) u w }

@@ -8,7 +8,7 @@ pub(crate) struct Place {
     pub(crate) first: bool,
 }
 
-/// For each copy of a run but 0 its place in its group.
+/// For each copy of a run but 0 its place in its group, in fixed memory.
 #[derive(Clone, Copy)]
 pub(crate) struct Groups {
     pub(crate) places: [Place; RunCopy::CEILING],

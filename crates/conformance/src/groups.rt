@@ -14,7 +14,7 @@ impl Trial<'_> {
     fn alike(self, i: usize, j: usize) -> bool
         ensures { T result ↔ Alike (trial_run self.entry) i j }
     {
-        self.parent(j) == self.parent(i) && self.block(j) == self.block(i)
+        self.run.copy(j) == self.run.copy(i)
     }
 
     /// The next copy of the group of copy `q`, if there is one.

@@ -1,4 +1,4 @@
-ghost use Rattle.std.specs.Prelude.{◌≡◌, ℕ, T, ◌⊎◌, ◌↔◌, MatchOption};
+ghost use Rattle.std.specs.Prelude.{◌≡◌, ℕ, T, ◌⊎◌, ◌↔◌, MatchOption, MatchResult};
 ghost use Rattle.formats.specs.Sections.{Lowest};
 ghost use Rattle.graphs.specs.Grids.{Marks};
 ghost use Rattle.conformance.specs.Nonconforming.{Astray, AtHome, Repeats, Once, ShortOf, Stepped};
@@ -37,19 +37,19 @@ impl Trial<'_> {
         marked
     }
 
-    /// The lowest step with the context and the origin of an earlier one; where there is none, the grid, empty before, marks the context
-    /// of each step with its origin. (A loop, since of what a closure writes as it goes through a range nothing is known after it.)
-    pub(crate) fn repeated(self, grid: &mut Grid<{ RunCopy::CEILING }>) -> Option<usize>
-        requires vertices_value { self.run.vertices ≡ (trial_spec self).n }
-        requires by_index { (i x : ℕ) → Marks grid.old i x → ⊥ }
-        ensures { MatchOption result (Once (trial_run self.entry) × MarksSteps (trial_run self.entry) grid.new) (Lowest (Repeats (trial_run self.entry))) }
+    /// The grid that marks the context of each step with its origin, or the lowest step with the context and the origin of an earlier one.
+    /// (A loop, since of what a closure writes as it goes through a range nothing is known after it.)
+    pub(crate) fn marked(self) -> Result<Grid<{ RunCopy::CEILING }>, usize>
+        requires { self.run.vertices ≡ (trial_spec self).n }
+        ensures { MatchResult result (λ g. Once (trial_run self.entry) × MarksSteps (trial_run self.entry) g) (Lowest (Repeats (trial_run self.entry))) }
     {
+        let mut grid = Grid::new();
         for u in 0..self.steps() {
-            if self.mark(grid, u) {
-                return Some(u);
+            if self.mark(&mut grid, u) {
+                return Err(u);
             }
         }
-        None
+        Ok(grid)
     }
 
     /// Whether the grid does not mark copy `i` with some vertex at home in its block.

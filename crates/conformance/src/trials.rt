@@ -4,7 +4,7 @@ ghost use Rattle.conformance.specs.Trials.{trial_spec, trial_run};
 use crate::trial::Trial;
 use records::kinds::BlockKind;
 
-// What the tables say, 0 where they have nothing.
+// What the tables say, 0 where they have nothing, as in the model.
 impl Trial<'_> {
     /// The parent of copy `i`.
     pub(crate) fn parent(self, i: usize) -> usize

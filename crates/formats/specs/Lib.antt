@@ -9,3 +9,4 @@ pub mod SpecFiles
 pub mod Runs
 pub mod RunFiles
 pub mod Deciding
+pub mod Lying

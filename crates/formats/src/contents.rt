@@ -51,6 +51,8 @@ impl Specification {
         self.ends.as_slice()
     }
 
+    // What follows is total, as the functions of the model are: it cannot fail, and asks nothing of whoever calls.
+
     /// The vertex numbered `x`; of zeros where there is none.
     pub fn vertex(&self, x: usize) -> Vertex
         ensures { result ≡ slice_index_or (kept self.now.vertices) x no_vertex }

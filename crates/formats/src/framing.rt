@@ -1,5 +1,6 @@
 ghost use Rattle.std.specs.Prelude.{◌≡◌, MatchResult};
 ghost use Rattle.formats.specs.Faults.{reading_fault};
+ghost use Rattle.formats.specs.Lying.{Lies};
 ghost use Rattle.formats.specs.RunFiles.{c_of, v_of, e_of, copies_from, steps_from, run_edges_from, run_bounds, run_format, RunAccepted, RunRefused};
 
 use crate::faults::ReadingFault;
@@ -33,19 +34,19 @@ impl<'a> FramedRun<'a> {
 
     /// The sections, in the order in which they stand.
     pub(crate) fn copies(self) -> Section<'a, RunCopy>
-        ensures { (result.bytes.now ≡ self.entry.bytes.now) × (result.base ≡ copies_from self.entry.bytes.now) × (result.count ≡ c_of self.entry.bytes.now) }
+        ensures { Lies result self.entry.bytes.now (copies_from self.entry.bytes.now) (c_of self.entry.bytes.now) }
     {
         Section::new(self.bytes, 6, self.copies)
     }
 
     pub(crate) fn steps(self) -> Section<'a, Step>
-        ensures { (result.bytes.now ≡ self.entry.bytes.now) × (result.base ≡ steps_from self.entry.bytes.now) × (result.count ≡ v_of self.entry.bytes.now) }
+        ensures { Lies result self.entry.bytes.now (steps_from self.entry.bytes.now) (v_of self.entry.bytes.now) }
     {
         Section::new(self.bytes, 6 + 4 * self.copies as usize, self.steps)
     }
 
     pub(crate) fn edges(self) -> Section<'a, RunEdge>
-        ensures { (result.bytes.now ≡ self.entry.bytes.now) × (result.base ≡ run_edges_from self.entry.bytes.now) × (result.count ≡ e_of self.entry.bytes.now) }
+        ensures { Lies result self.entry.bytes.now (run_edges_from self.entry.bytes.now) (e_of self.entry.bytes.now) }
     {
         Section::new(
             self.bytes,

@@ -6,7 +6,7 @@ use crate::faults::ReadingFault;
 use crate::sections::{Section, word_at};
 use records::record::Record;
 
-/// The three sizes at the head of a file, in the order in which they stand.
+/// The three sizes at the head of a file, in the order in which they stand, before a format names them.
 #[derive(Clone, Copy)]
 pub(crate) struct Sizes {
     pub(crate) first: u16,

@@ -79,6 +79,8 @@ impl<'a> RunFile<'a> {
         self.edges as usize
     }
 
+    // What follows is total, as the functions of the model are: it cannot fail, and asks nothing of whoever calls.
+
     /// The copy numbered `i`; of zeros where there is none.
     pub fn copy(self, i: usize) -> RunCopy
         ensures { result ≡ slice_index_or (copies_of self.entry.bytes.now) i no_copy }

@@ -1,5 +1,6 @@
 ghost use Rattle.std.specs.Prelude.{◌≡◌, MatchOption, MatchResult};
 ghost use Rattle.formats.specs.Faults.{reading_fault};
+ghost use Rattle.formats.specs.Lying.{Lies};
 ghost use Rattle.formats.specs.Sections.{Lowest};
 ghost use Rattle.formats.specs.SpecFiles.{n_of, m_of, b_of, edges_from, vertices_from, nests_from, ends_from, AllInside, Framed, Refused, Accepted, States, spec_bounds, spec_format};
 
@@ -47,13 +48,13 @@ impl<'a> SpecFile<'a> {
 
     /// The sections, in the order in which they stand.
     fn edges(self) -> Section<'a, SpecEdge>
-        ensures { (result.bytes.now ≡ self.entry.bytes.now) × (result.base ≡ edges_from self.entry.bytes.now) × (result.count ≡ m_of self.entry.bytes.now) }
+        ensures { Lies result self.entry.bytes.now (edges_from self.entry.bytes.now) (m_of self.entry.bytes.now) }
     {
         Section::new(self.bytes, 6, self.sizes.edges)
     }
 
     fn vertices(self) -> Section<'a, Vertex>
-        ensures { (result.bytes.now ≡ self.entry.bytes.now) × (result.base ≡ vertices_from self.entry.bytes.now) × (result.count ≡ n_of self.entry.bytes.now) }
+        ensures { Lies result self.entry.bytes.now (vertices_from self.entry.bytes.now) (n_of self.entry.bytes.now) }
     {
         Section::new(
             self.bytes,
@@ -63,7 +64,7 @@ impl<'a> SpecFile<'a> {
     }
 
     fn nests(self) -> Section<'a, Nest>
-        ensures { (result.bytes.now ≡ self.entry.bytes.now) × (result.base ≡ nests_from self.entry.bytes.now) × (result.count ≡ b_of self.entry.bytes.now) }
+        ensures { Lies result self.entry.bytes.now (nests_from self.entry.bytes.now) (b_of self.entry.bytes.now) }
     {
         Section::new(
             self.bytes,
@@ -73,7 +74,7 @@ impl<'a> SpecFile<'a> {
     }
 
     fn ends(self) -> Section<'a, Ends>
-        ensures { (result.bytes.now ≡ self.entry.bytes.now) × (result.base ≡ ends_from self.entry.bytes.now) × (result.count ≡ b_of self.entry.bytes.now) }
+        ensures { Lies result self.entry.bytes.now (ends_from self.entry.bytes.now) (b_of self.entry.bytes.now) }
     {
         Section::new(
             self.bytes,
@@ -92,6 +93,7 @@ impl<'a> SpecFile<'a> {
         Bounds {
             vertices: self.sizes.vertices,
             blocks: self.sizes.blocks,
+            // no section of a specification is held against these
             copies: 0,
             steps: 0,
         }

@@ -3,6 +3,7 @@ ghost use Rattle.formats.specs.Of.{spec_of};
 ghost use Rattle.formats.specs.RunFiles.{run_of};
 ghost use Rattle.formats.specs.Sections.{Lowest};
 ghost use Rattle.rules.specs.Faults.{nesting_fault};
+ghost use Rattle.nesting.specs.Pairs.{copies_spec, copies_run};
 ghost use Rattle.nesting.specs.Copies.{Misplaced, Follows, Under, Lacks, Full, Lacking, Filled, Misnested};
 
 use formats::run_file::RunFile;
@@ -30,7 +31,7 @@ struct Copies<'a> {
 impl Copies<'_> {
     /// Whether copy `i` stands under a copy of another block than the parent of its block.
     fn is_misplaced(self, i: usize) -> bool
-        ensures { T result ↔ ((run_of self.entry.run.bytes.now).block ((run_of self.entry.run.bytes.now).parent i) ≢ (spec_of self.entry.specification.now).above ((run_of self.entry.run.bytes.now).block i)) }
+        ensures { T result ↔ ((copies_run self.entry).block ((copies_run self.entry).parent i) ≢ (copies_spec self.entry).above ((copies_run self.entry).block i)) }
     {
         let copy = self.run.copy(i);
         let outer = self.run.copy(copy.parent as usize);
@@ -39,14 +40,14 @@ impl Copies<'_> {
 
     /// The lowest copy under a wrong parent.
     fn misplaced(self) -> Option<usize>
-        ensures { MatchOption result (Follows (spec_of self.entry.specification.now) (run_of self.entry.run.bytes.now)) (Lowest (Misplaced (spec_of self.entry.specification.now) (run_of self.entry.run.bytes.now))) }
+        ensures { MatchOption result (Follows (copies_spec self.entry) (copies_run self.entry)) (Lowest (Misplaced (copies_spec self.entry) (copies_run self.entry))) }
     {
         (0..self.run.copies()).find(|&i| self.is_misplaced(i))
     }
 
     /// Whether copy `i` lacks a copy of block `k` under it: the block's parent is the block of the copy, and there is none.
     fn lacks(self, i: usize, k: usize) -> bool
-        ensures { MatchBool result (((spec_of self.entry.specification.now).above k ≡ (run_of self.entry.run.bytes.now).block i) × (¬ (Under (run_of self.entry.run.bytes.now) i k))) ((spec_of self.entry.specification.now).above k ≡ (run_of self.entry.run.bytes.now).block i → Under (run_of self.entry.run.bytes.now) i k) }
+        ensures { MatchBool result (((copies_spec self.entry).above k ≡ (copies_run self.entry).block i) × (¬ (Under (copies_run self.entry) i k))) ((copies_spec self.entry).above k ≡ (copies_run self.entry).block i → Under (copies_run self.entry) i k) }
     {
         self.specification.nest(k).parent == self.run.copy(i).block && !has_under(self.run, i, k)
     }
@@ -54,14 +55,14 @@ impl Copies<'_> {
     /// The lowest block of which copy `i` lacks a copy under it. No two scans find the same copy, and one that finds none ends the check,
     /// so that over all copies there is at most one scan more than there are copies.
     fn lacked(self, i: usize) -> Option<usize>
-        ensures { MatchOption result (Full (spec_of self.entry.specification.now) (run_of self.entry.run.bytes.now) i) (Lowest (Lacks (spec_of self.entry.specification.now) (run_of self.entry.run.bytes.now) i)) }
+        ensures { MatchOption result (Full (copies_spec self.entry) (copies_run self.entry) i) (Lowest (Lacks (copies_spec self.entry) (copies_run self.entry) i)) }
     {
         (1..self.specification.nests().len()).find(|&k| self.lacks(i, k))
     }
 
     /// The lowest copy that lacks one under it.
     fn lacking(self) -> Option<usize>
-        ensures { MatchOption result (Filled (spec_of self.entry.specification.now) (run_of self.entry.run.bytes.now)) (Lowest (Lacking (spec_of self.entry.specification.now) (run_of self.entry.run.bytes.now))) }
+        ensures { MatchOption result (Filled (copies_spec self.entry) (copies_run self.entry)) (Lowest (Lacking (copies_spec self.entry) (copies_run self.entry))) }
     {
         (0..self.run.copies()).find(|&i| self.lacked(i).is_some())
     }

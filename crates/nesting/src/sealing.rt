@@ -21,6 +21,7 @@ impl SealedSpecification {
         SealedSpecification { specification }
     }
 
+    /// What was sealed.
     pub fn specification(&self) -> &Specification
         ensures { result.now ≡ self.now.specification }
     {

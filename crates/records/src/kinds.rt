@@ -1,13 +1,15 @@
-ghost use Rattle.std.specs.Prelude.{◌≡◌, ◌<◌, MatchOption, MatchResult, Some};
+ghost use Rattle.std.specs.Prelude.{◌≡◌, ◌<◌, MatchOption, MatchResult, Some, refl};
 ghost use Rattle.records.specs.Blocks.{kind_number, kind_word};
 ghost use Rattle.records.specs.Kinds.{copy_kind, ends_kind, nest_kind, run_edge_kind, spec_edge_kind, step_kind, vertex_kind};
-ghost use Rattle.std.proofs.Common.{rules};
 
 use crate::record::{Bounds, Record, Span};
 use std::fmt;
 
+// Each kind names the two fields of its struct, which no generic code can. `SpecEdge` and `RunEdge` are two types, so that an edge of a
+// specification is not taken for one of a run.
+
 /// An edge of a specification.
-#[derive(Clone, Copy, PartialEq, Eq, PartialOrd, Ord)]
+#[derive(Clone, Copy, PartialEq, Eq)]
 pub struct SpecEdge {
     pub tail: u16,
     pub head: u16,
@@ -26,9 +28,9 @@ impl Record for SpecEdge {
 
     ghost second = { λ e. e.head };
 
-    ghost firstly = { Prim.search rules };
+    ghost firstly = { λ a b. refl };
 
-    ghost secondly = { Prim.search rules };
+    ghost secondly = { λ a b. refl };
 
     fn limits() -> (usize, usize) {
         (SpecEdge::FLOOR, SpecEdge::CEILING)
@@ -52,7 +54,7 @@ impl Record for SpecEdge {
 }
 
 /// A vertex: its home block and its tool code.
-#[derive(Clone, Copy, PartialEq, Eq, PartialOrd, Ord)]
+#[derive(Clone, Copy, PartialEq, Eq)]
 pub struct Vertex {
     pub home: u16,
     pub tool: u16,
@@ -71,9 +73,9 @@ impl Record for Vertex {
 
     ghost second = { λ e. e.tool };
 
-    ghost firstly = { Prim.search rules };
+    ghost firstly = { λ a b. refl };
 
-    ghost secondly = { Prim.search rules };
+    ghost secondly = { λ a b. refl };
 
     fn limits() -> (usize, usize) {
         (Vertex::FLOOR, Vertex::CEILING)
@@ -97,7 +99,7 @@ impl Record for Vertex {
 }
 
 /// A block: its parent, and its kind as the file numbers it (0 the whole, 1 a fork, 2 a loop).
-#[derive(Clone, Copy, PartialEq, Eq, PartialOrd, Ord)]
+#[derive(Clone, Copy, PartialEq, Eq)]
 pub struct Nest {
     pub parent: u16,
     pub kind: u16,
@@ -116,9 +118,9 @@ impl Record for Nest {
 
     ghost second = { λ e. e.kind };
 
-    ghost firstly = { Prim.search rules };
+    ghost firstly = { λ a b. refl };
 
-    ghost secondly = { Prim.search rules };
+    ghost secondly = { λ a b. refl };
 
     fn limits() -> (usize, usize) {
         (Nest::FLOOR, Nest::CEILING)
@@ -168,9 +170,9 @@ pub struct NoKind(pub u16);
 impl TryFrom<u16> for BlockKind {
     type Error = NoKind;
 
-    fn try_from(number: u16) -> Result<Self, NoKind>
-        ensures { MatchResult result (λ k. number ≡ kind_number k) (λ e. (2 < number) × (e.0 ≡ number)) }
-    {
+    ghost try_from_gives = { λ n r. MatchResult r (λ k. n ≡ kind_number k) (λ e. (2 < n) × (e.0 ≡ n)) };
+
+    fn try_from(number: u16) -> Result<Self, NoKind> {
         match number {
             0 => Ok(BlockKind::Whole),
             1 => Ok(BlockKind::Fork),
@@ -190,7 +192,7 @@ impl Nest {
 }
 
 /// A block's source and sink.
-#[derive(Clone, Copy, PartialEq, Eq, PartialOrd, Ord)]
+#[derive(Clone, Copy, PartialEq, Eq)]
 pub struct Ends {
     pub source: u16,
     pub sink: u16,
@@ -209,9 +211,9 @@ impl Record for Ends {
 
     ghost second = { λ e. e.sink };
 
-    ghost firstly = { Prim.search rules };
+    ghost firstly = { λ a b. refl };
 
-    ghost secondly = { Prim.search rules };
+    ghost secondly = { λ a b. refl };
 
     fn limits() -> (usize, usize) {
         (Ends::FLOOR, Ends::CEILING)
@@ -235,7 +237,7 @@ impl Record for Ends {
 }
 
 /// A copy, one execution of a block: its parent copy and its block.
-#[derive(Clone, Copy, PartialEq, Eq, PartialOrd, Ord)]
+#[derive(Clone, Copy, PartialEq, Eq)]
 pub struct RunCopy {
     pub parent: u16,
     pub block: u16,
@@ -254,9 +256,9 @@ impl Record for RunCopy {
 
     ghost second = { λ e. e.block };
 
-    ghost firstly = { Prim.search rules };
+    ghost firstly = { λ a b. refl };
 
-    ghost secondly = { Prim.search rules };
+    ghost secondly = { λ a b. refl };
 
     fn limits() -> (usize, usize) {
         (RunCopy::FLOOR, RunCopy::CEILING)
@@ -280,7 +282,7 @@ impl Record for RunCopy {
 }
 
 /// A step of a run: the copy that it belongs to and the vertex that it executes.
-#[derive(Clone, Copy, PartialEq, Eq, PartialOrd, Ord)]
+#[derive(Clone, Copy, PartialEq, Eq)]
 pub struct Step {
     pub context: u16,
     pub origin: u16,
@@ -299,9 +301,9 @@ impl Record for Step {
 
     ghost second = { λ e. e.origin };
 
-    ghost firstly = { Prim.search rules };
+    ghost firstly = { λ a b. refl };
 
-    ghost secondly = { Prim.search rules };
+    ghost secondly = { λ a b. refl };
 
     fn limits() -> (usize, usize) {
         (Step::FLOOR, Step::CEILING)
@@ -325,7 +327,7 @@ impl Record for Step {
 }
 
 /// An edge of a run.
-#[derive(Clone, Copy, PartialEq, Eq, PartialOrd, Ord)]
+#[derive(Clone, Copy, PartialEq, Eq)]
 pub struct RunEdge {
     pub tail: u16,
     pub head: u16,
@@ -344,9 +346,9 @@ impl Record for RunEdge {
 
     ghost second = { λ e. e.head };
 
-    ghost firstly = { Prim.search rules };
+    ghost firstly = { λ a b. refl };
 
-    ghost secondly = { Prim.search rules };
+    ghost secondly = { λ a b. refl };
 
     fn limits() -> (usize, usize) {
         (RunEdge::FLOOR, RunEdge::CEILING)

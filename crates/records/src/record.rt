@@ -60,7 +60,7 @@ pub trait Record: Copy {
 
     ghost second: { Self → ℕ };
 
-    /// `FLOOR` and `CEILING`, for code that is generic in the kind.
+    /// `FLOOR` and `CEILING`, for code that is generic in the kind. (One body for all would need two ghost constants and two laws in each.)
     fn limits() -> (usize, usize)
         ensures { result ≡ (kind.floor, kind.ceiling) };
 

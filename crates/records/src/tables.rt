@@ -9,9 +9,9 @@ pub struct Table<T: Copy, const N: usize> {
     ghost fits: { len ≤ N },
 }
 
+// by hand: a generic struct with a ghost field derives neither
 impl<T: Copy, const N: usize> Copy for Table<T, N> {}
 
-// a struct with a ghost field derives no `Clone`
 impl<T: Copy, const N: usize> Clone for Table<T, N> {
     ghost is_clone = { λ a b. a ≡ b };
 

@@ -15,7 +15,7 @@ fn agree(a: &Row, b: &Row, x: usize) -> bool
 }
 
 impl Parts<'_> {
-    /// Whether two rows hold the same vertices.
+    /// Whether two rows hold the same vertices. (Vertex by vertex: of a row it is known what it holds, not what its words are.)
     fn same_vertices(&self, a: &Row, b: &Row) -> bool
         ensures { T result ↔ ((x : ℕ) → x < length self.now.vertices.now → (Holds a.now x ↔ Holds b.now x)) }
     {
@@ -31,10 +31,11 @@ impl Inner<'_> {
         let parts = &self.drawn.parts;
         let nest = self.nest();
         let parent = nest.parent as usize;
+        // the kinds as the file numbers them: only whether they differ counts
         if nest.kind != parts.nests[parent].kind {
             return true;
         }
-        let own = parts.domain(self.number);
+        let own = self.domain();
         let outer = parts.domain(parent);
         !parts.same_vertices(&own, &outer)
     }

@@ -3,7 +3,7 @@ ghost use Rattle.formats.specs.Specifications.{Sized, EdgesRanged, HomesRanged, 
 
 use records::kinds::{Ends, Nest, SpecEdge, Vertex};
 
-/// The four tables of a specification, lent to the checks of sealing.
+/// The four tables of a specification, lent to the checks of sealing as slices: a look at one is an index, and no call.
 #[derive(Clone, Copy)]
 pub struct Parts<'a> {
     pub(crate) edges: &'a [SpecEdge],

@@ -1,20 +1,16 @@
 -- Which copies, steps, edges, blocks or vertices of an opened run and its specification are meant.
 use Rattle.std.specs.Prelude.{◌≡◌, ℕ, ◌<◌, length, slice_index_or}
 use Rattle.model.specs.Specifications.{Edge}
-use Rattle.model.specs.Runs.{Run}
 use Rattle.formats.specs.Runs.{no_run_edge}
 use Rattle.formats.specs.RunFiles.{run_edges_of}
 use Rattle.nesting.specs.Copies.{Under}
+use Rattle.conformance.specs.Nonconforming.{HasStep}
 use Rattle.conformance.specs.Trials.{trial_spec, trial_run}
 use Rattle.conformance.specs.declared.trial.Trial.{Trial}
 
 -- how many edges the run lists
 abbrev pub edge_count : Trial → ℕ
 edge_count o = length (run_edges_of o.run.bytes.now)
-
--- copy i has a step of vertex x
-abbrev pub HasStep : Run → ℕ → ℕ → Type 0
-HasStep r i x = (u : ℕ) × (u < r.v) × (r.context u ≡ i) × (r.origin u ≡ x)
 
 -- the edge at index k goes along an edge of the specification
 abbrev pub GoesAlong : Trial → ℕ → Type 0

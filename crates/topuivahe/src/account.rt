@@ -7,7 +7,8 @@ use rules::faults::NestingFault;
 use std::alloc::AllocError;
 use std::fmt;
 
-/// The text that is printed of a file, and whether what it is of was accepted.
+/// The text that is printed of a file, and whether what it is of was accepted. (No `Result`: the text of a refused file is no error, and is
+/// printed alike.)
 #[derive(Drop)]
 pub enum Account {
     Accepted(String),
@@ -19,14 +20,14 @@ impl Account {
     fn ended(
         mut text: String,
         accepted: &str,
-        verdict: Result<(), Refusal>,
+        refusal: Option<Refusal>,
     ) -> Result<Self, AllocError> {
-        match verdict {
-            Ok(()) => {
+        match refusal {
+            None => {
                 writeln!(text, "\n{accepted}")?;
                 Ok(Account::Accepted(text))
             }
-            Err(refusal) => {
+            Some(refusal) => {
                 writeln!(text, "\n{refusal}")?;
                 Ok(Account::Refused(text))
             }
@@ -55,9 +56,10 @@ impl fmt::Display for Heading<'_> {
 
 impl Heading<'_> {
     fn sizes<W: fmt::Write>(self, f: &mut fmt::Formatter<W>, sizes: [u16; 3]) -> fmt::Result {
-        let [a, b, c] = self.labels;
-        let [first, second, third] = sizes;
-        writeln!(f, "{a:<8}  {first}\n{b:<8}  {second}\n{c:<8}  {third}")
+        for (label, size) in self.labels.iter().zip(sizes) {
+            writeln!(f, "{label:<8}  {size}")?;
+        }
+        Ok(())
     }
 }
 
@@ -78,11 +80,8 @@ pub fn report(
         Err(NestingFault::Reading(_)) => {}
         _ => words.tables(&mut out)?,
     }
-    let verdict = match verdict {
-        Ok(()) => Ok(()),
-        Err(fault) => Err(words.refusal(fault, file.bytes)?),
-    };
-    Account::ended(out, "sealed", verdict)
+    let refusal = verdict.err().map(|fault| words.refusal(fault, file.bytes));
+    Account::ended(out, "sealed", refusal.transpose()?)
 }
 
 /// What is known of a run that was opened.
@@ -116,9 +115,6 @@ pub fn run_report(
         Err(ConformanceFault::Nesting(NestingFault::Reading(_))) => {}
         _ => contents(&mut out, words, verdict.is_ok())?,
     }
-    let verdict = match verdict {
-        Ok(()) => Ok(()),
-        Err(fault) => Err(words.refusal(fault, file.bytes)?),
-    };
-    Account::ended(out, "conforms", verdict)
+    let refusal = verdict.err().map(|fault| words.refusal(fault, file.bytes));
+    Account::ended(out, "conforms", refusal.transpose()?)
 }

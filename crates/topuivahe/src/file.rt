@@ -8,7 +8,7 @@ pub struct File<'a> {
     pub bytes: &'a [u8],
 }
 
-/// The number at byte `at`, where the file has it.
+/// The number at byte `at`, where the file has it; of any file, also one that was refused.
 pub fn number_at(bytes: &[u8], at: usize) -> Option<u16>
     ensures { MatchOption result (length bytes.now ≤ at + 1) (λ x. (at + 1 < length bytes.now) × (x ≡ word bytes.now at)) }
 {
@@ -17,7 +17,7 @@ pub fn number_at(bytes: &[u8], at: usize) -> Option<u16>
     Some(u16::from_le_bytes([low, high]))
 }
 
-/// The number at byte `at`; 0 where the file has none.
+/// The number at byte `at`; 0 where the file has none. (The words for a fault ask for numbers that are there.)
 pub fn number_or_zero(bytes: &[u8], at: usize) -> u16
     ensures there { at + 1 < length bytes.now → result ≡ word bytes.now at }
     ensures beyond { length bytes.now ≤ at + 1 → result ≡ 0 }

@@ -23,7 +23,8 @@ pub fn kind_of(specification: &Specification, block: usize) -> BlockKind
     specification.nest(block).block_kind().unwrap()
 }
 
-/// Whether a vertex lies in the domain of a block: its home is the block, or has it above.
+/// Whether a vertex lies in the domain of a block: its home is the block, or has it above. (For any two numbers, where the walk in the rules
+/// asks that the block is there.)
 pub fn in_domain(specification: &Specification, block: usize, vertex: usize) -> bool
     ensures { T result ↔ Domain (spec_of specification.now) block vertex }
 {

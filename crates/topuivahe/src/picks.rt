@@ -1,8 +1,9 @@
 ghost use Rattle.std.specs.Prelude.{◌≡◌, ◌<◌, T, ◌↔◌, IfOk};
 ghost use Rattle.formats.specs.RunFiles.{run_of};
+ghost use Rattle.conformance.specs.Nonconforming.{HasStep};
 ghost use Rattle.conformance.specs.Trials.{trial_spec, trial_run};
 ghost use Rattle.topuivahe.specs.Listings.{Lists};
-ghost use Rattle.topuivahe.specs.Picks.{edge_count, HasStep, GoesAlong, Inner, Group, StepOf, Twin, Leaves, Lacked, Missed};
+ghost use Rattle.topuivahe.specs.Picks.{edge_count, GoesAlong, Inner, Group, StepOf, Twin, Leaves, Lacked, Missed};
 
 use crate::members::has_edge;
 use conformance::trial::Trial;
@@ -66,10 +67,7 @@ impl RunWords<'_> {
         let run = self.opened.run;
         let this = run.copy(copy);
         (0..run.copies())
-            .filter(|&j| {
-                let other = run.copy(j);
-                j > 0 && other.parent == this.parent && other.block == this.block
-            })
+            .filter(|&j| j > 0 && run.copy(j) == this)
             .collect(self.heap)
     }
 
@@ -90,10 +88,7 @@ impl RunWords<'_> {
         let run = self.opened.run;
         let this = run.step(step);
         (0..run.steps())
-            .filter(|&u| {
-                let other = run.step(u);
-                other.context == this.context && other.origin == this.origin
-            })
+            .filter(|&u| run.step(u) == this)
             .collect(self.heap)
     }
 
