@@ -1,17 +1,55 @@
 -- Rows of words, of any number of words.
-use Rattle.std.proofs.Common.{◌≡◌, ℕ, zero, suc, ◌+◌, ◌*◌, ◌/◌, ◌%◌, ◌^◌, ◌<◌, ◌≤◌, ◌⊎◌, ◌↔◌, List, length, get_or, set, sym, ◌∙◌, subst, inl, inr, arith}
-use lib.Bits.{bit_or}
+use Rattle.std.proofs.Common.{◌≡◌, ℕ, zero, suc, ◌+◌, ◌*◌, ◌/◌, ◌%◌, ◌^◌, ◌<◌, ◌≤◌, T, eqb, ◌⊎◌, ◌↔◌, List, length, get_or, set, replicate, sym, ◌∙◌, subst, inl, inr, arith, eqb→eq}
+use lib.Bits.{bit_and, bit_or}
 use Rattle.std.specs.Int.{bit_at, w64}
 use Rattle.std.specs.Fn.{Called}
 use Rattle.std.specs.Array.{IsFromFnResultFrom}
-use Rattle.std.proofs.lemmas.Nat.{mod_below}
-use Rattle.std.proofs.lemmas.Nat.Bits.{bit_at-lt, bit_at_or, bit_at_set_same, bit_at_set_other}
-use Rattle.std.proofs.lemmas.List.{get_or-set_other}
+use Rattle.std.proofs.lemmas.Nat.{mod_below, and_mask}
+use Rattle.std.proofs.lemmas.Nat.Bits.{bit_at-lt, bit_at-zero, bit_at_or, bit_at_set_same, bit_at_set_other}
+use Rattle.std.proofs.lemmas.List.{get_or-replicate, get_or-set_other, get_or_past, length-replicate}
 use Rattle.std.proofs.lemmas.Grind.{get_or-set_at}
 use Rattle.std.proofs.lemmas.Bool.{cases_eq, cases_lt}
 use Rattle.graphs.specs.declared.row.Row.{Row}
 use Rattle.graphs.specs.Rows.{Has, Holds, vertices}
 use denote.Param.Members.{Mut}
+
+-- a number is in a row or not
+pub has_or : (words : List ℕ) (x : ℕ) → Has words x ⊎ (¬ (Has words x))
+unfolding Has
+has_or words x = elim (cases_eq (bit_at (get_or words (x / 64) 0) (x % 64)) 1) [ inl e ↦ inl e | inr n ↦ inr n ]
+
+-- a word that is 0 has no bit
+has_no_bit : (words : List ℕ) (x : ℕ) → get_or words (x / 64) 0 ≡ 0 → Has words x → ⊥
+unfolding Has
+has_no_bit words x e h =
+    let z : bit_at 0 (x % 64) ≡ 1 = subst (λ (n : ℕ). bit_at n (x % 64) ≡ 1) e h in
+    omega (arith, bit_at-zero (x % 64))
+
+-- past the last word there is no bit
+pub has_past : (words : List ℕ) (x : ℕ) → length words ≤ x / 64 → Has words x → ⊥
+has_past words x l = has_no_bit words x (get_or_past words (x / 64) 0 l)
+
+pub has_range : (words : List ℕ) (x : ℕ) → Has words x → x < 64 * length words
+has_range words x h =
+    elim (cases_lt (x / 64) (length words))
+    [ inl l ↦ omega arith | inr l ↦ absurd (has_past words x l h) ]
+
+-- words that are all 0
+pub has_none : (n x : ℕ) → Has (replicate n 0) x → ⊥
+has_none n x =
+    elim (cases_lt (x / 64) n) [
+      | inl l ↦ has_no_bit (replicate n 0) x (get_or-replicate n (x / 64) 0 0 l)
+      | inr l ↦ has_past (replicate n 0) x (simp length-replicate l)
+    ]
+
+-- the test of a number in code
+pub has_test : (words : List ℕ) (x : ℕ) → T (eqb (bit_and (get_or words (x / 64) 0 / 2 ^ (x % 64)) 1) 1) ↔ Has words x
+unfolding Has
+has_test words x =
+    let low : bit_and (get_or words (x / 64) 0 / 2 ^ (x % 64)) 1 ≡ bit_at (get_or words (x / 64) 0) (x % 64) = and_mask (get_or words (x / 64) 0 / 2 ^ (x % 64)) 1 in (
+      (λ t. sym low ∙ eqb→eq (bit_and (get_or words (x / 64) 0 / 2 ^ (x % 64)) 1) 1 t),
+      (λ h. subst (λ (n : ℕ). T (eqb n 1)) (sym (low ∙ h)) tt),
+    )
 
 -- the words after bit x is set in code
 pub marked_has : (words : List ℕ) (x y : ℕ) → x / 64 < length words
@@ -52,9 +90,9 @@ holds_range row x h = h.0
 
 -- a vertex is in a row or not
 pub holds_or : (row : Row) (x : ℕ) → Holds row x ⊎ (¬ (Holds row x))
-unfolding Has Holds
+unfolding Holds
 holds_or row x =
     elim (cases_lt x vertices) [
-      | inl l ↦ elim (cases_eq (bit_at (get_or row.words (x / 64) 0) (x % 64)) 1) [ inl e ↦ inl (l, e) | inr n ↦ inr (λ h. n h.1) ]
+      | inl l ↦ elim (has_or row.words x) [ inl h ↦ inl (l, h) | inr n ↦ inr (λ h. n h.1) ]
       | inr l ↦ inr (λ h. omega (arith, h.0))
     ]

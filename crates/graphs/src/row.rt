@@ -17,7 +17,6 @@ pub struct Row {
 
 impl Row {
     /// The set of no vertex.
-    #[tactic(auto, unfolding(crate::specs::Rows::Holds, crate::specs::Rows::Has))]
     pub fn empty() -> Self
         ensures { (x : ℕ) → Holds result x → ⊥ }
     {
@@ -25,7 +24,6 @@ impl Row {
     }
 
     /// Whether x is in the set; beyond the width no number is.
-    #[tactic(auto, unfolding(crate::specs::Rows::Holds, crate::specs::Rows::Has))]
     pub fn has(&self, x: usize) -> bool
         ensures { T result ↔ Holds self.now x }
     {
