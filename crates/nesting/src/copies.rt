@@ -10,11 +10,11 @@ use formats::run_file::RunFile;
 use formats::specification::Specification;
 use rules::faults::NestingFault;
 
-/// Whether a copy of block `k` stands directly under copy `i`.
+/// Whether a copy of block `k` stands directly under copy `i`. Such a copy comes after `i`.
 pub fn has_under(run: RunFile, i: usize, k: usize) -> bool
     ensures { T result ↔ Under (run_of run.entry.bytes.now) i k }
 {
-    (1..run.copies()).any(|j| {
+    (i.saturating_add(1)..run.copies()).any(|j| {
         let copy = run.copy(j);
         copy.parent as usize == i && copy.block as usize == k
     })
