@@ -101,7 +101,7 @@ impl Derivation<'_> {
         requires { (0 < a) × (a < (trial_run self.now.trial).c) }
         ensures { T result ↔ Next (trial_run self.now.trial) a b }
     {
-        self.place(a).next == Some(b)
+        self.place(a).next.map(usize::from) == Some(b)
     }
 
     /// Whether copy `a` is of a loop and copy `b` the next of its group, step `u` an execution of the loop's sink and step `w` one of its

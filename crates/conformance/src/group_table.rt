@@ -1,10 +1,11 @@
 use records::kinds::RunCopy;
 use records::record::Record;
 
-/// The place of a copy in its group: the next copy of the group, if there is one, and whether it is the first.
+/// The place of a copy in its group: the next copy of the group, if there is one, and whether it is the first. (In 16 bits, as the file has
+/// it: a table of 512 places is made at each check, however small the run.)
 #[derive(Clone, Copy)]
 pub(crate) struct Place {
-    pub(crate) next: Option<usize>,
+    pub(crate) next: Option<u16>,
     pub(crate) first: bool,
 }
 

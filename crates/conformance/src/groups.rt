@@ -38,8 +38,12 @@ impl Trial<'_> {
         requires { q < (trial_run self).c }
         ensures { GroupPlace (trial_run self.entry) q result }
     {
+        let next = match self.next_of(q) {
+            Some(next) => Some(next as u16),
+            None => None,
+        };
         Place {
-            next: self.next_of(q),
+            next,
             first: self.is_first_of(q),
         }
     }
