@@ -143,11 +143,14 @@ fn run_parts(sizes: [u16; 3], vertices: usize, blocks: usize) -> [Stretch; 6] {
 
 /// Which number the byte `at` belongs to, in a file with these parts.
 fn spot_of(parts: &[Stretch], at: usize) -> Option<Spot> {
-    let number = at.checked_sub(6)? / 2;
-    parts
-        .iter()
-        .flat_map(|part| (0..part.count as usize).map(|record| part.spot(record)))
-        .nth(number)
+    let mut left = at.checked_sub(6)? / 2;
+    parts.iter().find_map(|part| match left.checked_sub(part.count as usize) {
+        Some(rest) => {
+            left = rest;
+            None
+        }
+        None => Some(part.spot(left)),
+    })
 }
 
 impl Form {
